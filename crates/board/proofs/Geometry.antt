@@ -1,0 +1,73 @@
+-- What document 01 says of the whole board, by computation: how many mills and neighbour pairs there are. Fewer rings have a part of the
+-- tables of three rings: the neighbours that are points of theirs, and the first mills. Assumes nothing.
+use mathlib.Core.Path.{_≡_, refl, subst}
+use mathlib.Core.Bool.{Bool, true, false, not}
+use mathlib.Core.List.{List, [], _∷_, _++_}
+use Prim.Native.Nat.{ℕ, zero, suc, _+_, _*_, _-_, _/_, _≤_, _<_}
+use native.Mathlib.Omega.{arith}
+use lib.Dec.{eqb, ltb}
+use lib.ListN.{length, take}
+use borrow.Author.Tests.{ltb-true, eqb-false, not-true}
+use Rattle.board.specs.Lists.{range, keep, all, each}
+use Rattle.board.specs.Geometry.{points, follows, inward, adjoin, neighbours, ringMills, crossMills, mills}
+use Rattle.board.specs.Tables.{millPoint}
+use Rattle.board.proofs.Table.{passed}
+use Rattle.board.proofs.Lists.{keep-below}
+
+-- 4, 8 and 16 mills
+pub mill-counts : (length (mills 1) ∷ length (mills 2) ∷ length (mills 3) ∷ []) ≡ 4 ∷ 8 ∷ 16 ∷ []
+unfolding mills ringMills crossMills
+mill-counts = refl
+
+-- each pair is counted at both of its points
+pub neighbourPairs : ℕ → ℕ
+neighbourPairs rings = length (each (λ p. neighbours rings p) (points rings)) / 2
+
+-- 8, 20 and 32 neighbour pairs
+pub pair-counts : (neighbourPairs 1 ∷ neighbourPairs 2 ∷ neighbourPairs 3 ∷ []) ≡ 8 ∷ 20 ∷ 32 ∷ []
+unfolding neighbourPairs neighbours points adjoin follows inward
+pair-counts = refl
+
+-- how many of the sixteen mills a board has
+abbrev pub millCount : ℕ → ℕ
+millCount rings = length (mills rings)
+
+-- the mills of fewer rings are the first of the sixteen
+pub mills-first : (rings : ℕ) → 1 ≤ rings → rings ≤ 3 → mills rings ≡ take (millCount rings) (mills 3)
+unfolding mills ringMills crossMills
+mills-first zero l h = absurd (omega arith)
+mills-first (suc zero) l h = refl
+mills-first (suc (suc zero)) l h = refl
+mills-first (suc (suc (suc zero))) l h = refl
+mills-first (suc (suc (suc (suc r)))) l h = absurd (omega arith)
+
+-- the neighbours on fewer rings are those among the 24 points that are points of the board
+pub neighbours-within : (rings p : ℕ) → rings ≤ 3 → keep (λ q. ltb q (8 * rings)) (neighbours 3 p) ≡ neighbours rings p
+unfolding neighbours points
+neighbours-within rings p h =
+    let n : ℕ = 8 * rings in
+    let e : n + (24 - n) ≡ 24 = omega arith in
+    subst (λ (k : ℕ). keep (λ q. ltb q n) (keep (λ q. adjoin p q) (range 0 k)) ≡ keep (λ q. adjoin p q) (range 0 n)) e
+    (keep-below (λ q. adjoin p q) n n (24 - n) 0 (omega arith))
+
+-- the points of a mill are points of the board, and differ
+inside : ℕ → ℕ → Bool
+inside j i = ltb (millPoint i j) 24
+
+apart : ℕ → ℕ → ℕ → Bool
+apart j k i = not (eqb (millPoint i j) (millPoint i k))
+
+pub record ThreePoints (a b c : ℕ) : Type 0 where
+  pub low : (a < 24) × (b < 24) × (c < 24)
+  pub differ : (b ≡ a → ⊥) × (c ≡ a → ⊥) × (c ≡ b → ⊥)
+
+pub mill-points : (i : ℕ) → i < 16 → ThreePoints (millPoint i 0) (millPoint i 1) (millPoint i 2)
+unfolding inside apart millPoint mills ringMills crossMills
+mill-points i h =
+    record { low = (low 0 refl, low 1 refl, low 2 refl); differ = (differ 1 0 refl, differ 2 0 refl, differ 2 1 refl) }
+  where
+    low : (j : ℕ) → all (inside j) (range 0 16) ≡ true → millPoint i j < 24
+    low j t = ltb-true _ _ (passed (inside j) 16 0 i t (omega arith) (omega arith))
+
+    differ : (j k : ℕ) → all (apart j k) (range 0 16) ≡ true → millPoint i j ≡ millPoint i k → ⊥
+    differ j k t = eqb-false _ _ (not-true _ (passed (apart j k) 16 0 i t (omega arith) (omega arith)))

@@ -1,0 +1,4 @@
+pub mod Lists
+pub mod Table
+pub mod Geometry
+pub mod Sides

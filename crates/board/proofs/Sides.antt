@@ -1,0 +1,117 @@
+-- A board's two sides as sets: what each point's digit says, the count, the bound, and the way back to the board. Assumes nothing.
+use mathlib.Core.Path.{_≡_, refl, sym, ap, ap₂, _∙_, subst}
+use mathlib.Core.Bool.{Bool, true, false}
+use mathlib.Core.List.{List, [], _∷_}
+use Prim.Native.Nat.{ℕ, zero, suc, _+_, _-_, _*_, _/_, _%_, _^_, _≤_, _<_}
+use native.Mathlib.Nat.{pow-suc, lt-of-lt-of-le, not-suc-le-zero, le-of-suc-le-suc}
+use native.Mathlib.Omega.{arith}
+use lib.Dec.{eqb}
+use borrow.Author.Tests.{eqb-true}
+use lib.Count.{ones, ones-step}
+use lib.Pow.{pow-mono}
+use lib.ListN.{length, getD, drop, length-drop}
+use lib.Seq.{drop-cons, ext-getD}
+use Rattle.sets.specs.Sets.{bit, has, members}
+use Rattle.sets.proofs.Laws.{bit-zero, bit-suc, members-all}
+use Rattle.board.specs.declared.position.Position.{Position}
+use Rattle.board.specs.Board.{Values, more, count, digit, setOf, positionOf, valueAt, boardOf, OnBoard}
+use Rattle.board.proofs.Table.{rule, length-values}
+
+pub digit-lt : (b : Bool) → digit b < 2
+digit-lt true = omega arith
+digit-lt false = omega arith
+
+pub more-digit : (b : Bool) (n : ℕ) → more b n ≡ n + digit b
+more-digit true n = omega arith
+more-digit false n = omega arith
+
+-- each value of a board is 0, 1 or 2
+pub value-le : (b : List ℕ) → Values b → (p : ℕ) → getD b p 0 ≤ 2
+value-le [] v p = omega arith
+value-le (x ∷ b) v zero = v .0
+value-le (x ∷ b) v (suc p) = value-le b (v .1) p
+
+-- a set has no points beyond the board
+pub set-lt : (v : ℕ) (b : List ℕ) → setOf v b < 2 ^ length b
+unfolding setOf
+set-lt v [] = omega arith
+set-lt v (x ∷ b) = rw (pow-suc 2 (length b)) (omega (arith, set-lt v b, digit-lt (eqb x v)))
+
+pub set-small : (v i : ℕ) (b : List ℕ) → length b ≤ 24 → setOf v (drop i b) < 2 ^ 24
+set-small v i b h =
+    lt-of-lt-of-le (set-lt v (drop i b)) (pow-mono {i = length (drop i b)} {j = 24} (omega (arith, length-drop i b)))
+
+-- one point more, from the highest down
+pub set-step : (v i : ℕ) (b : List ℕ) → 0 < i → i ≤ length b
+    → setOf v (drop (i - 1) b) ≡ digit (eqb (getD b (i - 1) 0) v) + 2 * setOf v (drop i b)
+unfolding setOf
+set-step v i b p h =
+    let e : suc (i - 1) ≡ i = omega arith in
+    ap (setOf v) (drop-cons b (i - 1) 0 (omega arith)) ∙ ap (λ (k : ℕ). digit (eqb (getD b (i - 1) 0) v) + 2 * setOf v (drop k b)) e
+
+-- a point is a member exactly where the board holds v
+pub bit-set : (v : ℕ) (b : List ℕ) (p : ℕ) → p < length b → bit (setOf v b) p ≡ digit (eqb (getD b p 0) v)
+unfolding setOf
+bit-set v [] p h = absurd (not-suc-le-zero h)
+bit-set v (x ∷ b) zero h = bit-zero (digit (eqb x v) + 2 * setOf v b) ∙ omega (arith, digit-lt (eqb x v))
+bit-set v (x ∷ b) (suc p) h =
+    let e : (digit (eqb x v) + 2 * setOf v b) / 2 ≡ setOf v b = omega (arith, digit-lt (eqb x v)) in
+    bit-suc (digit (eqb x v) + 2 * setOf v b) p ∙ ap (λ (s : ℕ). bit s p) e ∙ bit-set v b p (le-of-suc-le-suc h)
+
+ones-set : (v : ℕ) (b : List ℕ) → ones (setOf v b) ≡ count v b
+unfolding setOf ones
+ones-set v [] = refl
+ones-set v (x ∷ b) =
+    let d : ℕ = digit (eqb x v) in
+    let e : (d + 2 * setOf v b) / 2 ≡ setOf v b = omega (arith, digit-lt (eqb x v)) in
+    let f : (d + 2 * setOf v b) % 2 ≡ d = omega (arith, digit-lt (eqb x v)) in
+    ones-step (d + 2 * setOf v b) ∙ ap₂ _+_ f (ap ones e ∙ ones-set v b) ∙ omega (arith, more-digit (eqb x v) (count v b))
+
+-- the members of a side's set are its stones
+pub members-count : (v : ℕ) (b : List ℕ) → length b ≤ 24 → members (setOf v b) 32 ≡ count v b
+members-count v b h =
+    members-all (setOf v b) 32 (lt-of-lt-of-le (set-lt v b) (pow-mono {i = length b} {j = 32} (omega arith))) ∙ ones-set v b
+
+-- the board of a position
+pub length-board : (points : ℕ) (p : Position) → length (boardOf points p) ≡ points
+unfolding boardOf
+length-board points p = length-values (valueAt p) points 0
+
+pub board-at : (points : ℕ) (p : Position) (q : ℕ) → q < points → getD (boardOf points p) q 0 ≡ valueAt p q
+unfolding boardOf
+board-at points p q h = rule (valueAt p) points q h
+
+-- the digits of a value say which side stands there, if any
+one-digit : (x : ℕ) → x ≤ 2 → digit (eqb (digit (eqb x 1)) 1) + 2 * digit (eqb (digit (eqb x 2)) 1) ≡ x
+one-digit zero h = refl
+one-digit (suc zero) h = refl
+one-digit (suc (suc zero)) h = refl
+one-digit (suc (suc (suc x))) h = absurd (omega arith)
+
+-- a board's position stands for the board
+pub board-position : (b : List ℕ) → Values b → boardOf (length b) (positionOf b) ≡ b
+unfolding positionOf valueAt
+board-position b v =
+    ext-getD 0 (boardOf (length b) (positionOf b)) b (length-board (length b) (positionOf b)) (λ p h. at p (subst (λ (n : ℕ). p < n) (length-board (length b) (positionOf b)) h))
+  where
+    at : (p : ℕ) → p < length b → getD (boardOf (length b) (positionOf b)) p 0 ≡ getD b p 0
+    at p h =
+        board-at (length b) (positionOf b) p h
+        ∙ ap₂ (λ (x y : ℕ). digit (eqb x 1) + 2 * digit (eqb y 1)) (bit-set 1 b p h) (bit-set 2 b p h) ∙ one-digit (getD b p 0) (value-le b v p)
+
+apart-digits : (x : ℕ) → digit (eqb x 1) + digit (eqb x 2) ≤ 1
+apart-digits x = go (eqb x 1) refl (eqb x 2) refl
+  where
+    go : (a : Bool) → eqb x 1 ≡ a → (b : Bool) → eqb x 2 ≡ b → digit a + digit b ≤ 1
+    go true p true q = absurd (omega (arith, eqb-true x 1 p, eqb-true x 2 q))
+    go true p false q = omega arith
+    go false p true q = omega arith
+    go false p false q = omega arith
+
+pub position-on : (b : List ℕ) → OnBoard (length b) (positionOf b)
+unfolding positionOf
+position-on b = record {
+  mover-within = set-lt 1 b;
+  opponent-within = set-lt 2 b;
+  apart = λ q h. omega (arith, bit-set 1 b q h, bit-set 2 b q h, apart-digits (getD b q 0));
+}

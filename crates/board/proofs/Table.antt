@@ -1,0 +1,45 @@
+-- A rule of a whole table, from one computed test: the prover lists the rule's values and compares them with the table, or tries a test at
+-- each number below the table's length. Assumes nothing.
+use mathlib.Core.Path.{_≡_, refl, ap, subst, _∙_, sym}
+use mathlib.Core.Bool.{Bool, true, false, false≢true}
+use mathlib.Core.Logic.{⊎-elim}
+use mathlib.Core.List.{List, [], _∷_}
+use Prim.Native.Nat.{ℕ, zero, suc, _+_, _≤_, _<_}
+use native.Mathlib.Nat.{add-zero, zero-add, add-suc, suc-add, le-of-suc-le-suc, not-suc-le-zero, eq-or-lt-of-le}
+use native.Mathlib.Omega.{arith}
+use lib.ListN.{getD, length, set}
+use lib.Seq.{getD-set-same, getD-set-other}
+use borrow.Author.Count.{below-more}
+use Rattle.board.specs.Lists.{range, all}
+use Rattle.board.specs.Board.{values}
+
+from : (f : ℕ → ℕ) (n i k : ℕ) → k < n → getD (values f i n) k 0 ≡ f (i + k)
+from f zero i k h = absurd (not-suc-le-zero h)
+from f (suc n) i zero h = ap f (sym (add-zero i))
+from f (suc n) i (suc k) h = from f n (suc i) k (le-of-suc-le-suc h) ∙ ap f (suc-add i k ∙ sym (add-suc i k))
+
+-- where a table computes to the values of f, its entry at k is f k
+pub rule : (f : ℕ → ℕ) (n k : ℕ) → k < n → getD (values f 0 n) k 0 ≡ f k
+rule f n k h = from f n 0 k h ∙ ap f (zero-add k)
+
+pub length-values : (f : ℕ → ℕ) (n i : ℕ) → length (values f i n) ≡ n
+length-values f zero i = refl
+length-values f (suc n) i = ap suc (length-values f n (suc i))
+
+-- a test passed by each of n numbers from a on
+pub passed : (f : ℕ → Bool) (n a k : ℕ) → all f (range a n) ≡ true → a ≤ k → k < a + n → f k ≡ true
+passed f zero a k t l h = absurd (omega arith)
+passed f (suc n) a k t l h = go (f a) refl t (λ u. passed f n (suc a) k u)
+  where
+    go : (b : Bool) → f a ≡ b → elim b [ true ↦ all f (range (suc a) n) | false ↦ false ] ≡ true
+        → (all f (range (suc a) n) ≡ true → suc a ≤ k → k < suc a + n → f k ≡ true) → f k ≡ true
+    go true e u rest =
+        ⊎-elim (λ (q : a ≡ k). subst (λ (x : ℕ). f x ≡ true) q e) (λ (q : a < k). rest u q (omega arith)) (eq-or-lt-of-le l)
+    go false e u rest = absurd (false≢true u)
+
+-- one entry more is written: a table that holds the values of f below i holds them below i + 1
+pub stored-more : (f : ℕ → ℕ) (t : List ℕ) (i v : ℕ) → i < length t → v ≡ f i
+    → ((k : ℕ) → k < i → getD t k 0 ≡ f k) → (k : ℕ) → k < i + 1 → getD (set t i v) k 0 ≡ f k
+stored-more f t i v l e below =
+    below-more (λ (k : ℕ). getD (set t i v) k 0 ≡ f k) i (λ k h. getD-set-other t i k v 0 (λ q. absurd (omega arith)) ∙ below k h)
+    (getD-set-same t i v 0 l ∙ e)

@@ -1,0 +1,4 @@
+pub mod Lists
+pub mod Geometry
+pub mod Tables
+pub mod Board

@@ -1,0 +1,53 @@
+// Sets of points, as the binary digits of a u32. A board has 24 points at the most.
+ghost use mathlib.Core.Path.{_≡_};
+ghost use Prim.Native.Nat.{_+_, _<_};
+ghost use Rattle.sets.specs.Sets.{bit, has, with, without, members, hasAll};
+
+// Whether a point is a member.
+pub fn has(s: u32, p: usize) -> bool
+    requires { ⌜ p < 24 ⌝ }
+    ensures { λ r. ⌜ r ≡ has s p ⌝ }
+{
+    (s >> p) % 2 == 1
+}
+
+// The set with one member more, or the same set where the point is a member already.
+pub fn with(s: u32, p: usize) -> u32
+    requires { ⌜ p < 24 ⌝ }
+    ensures { λ r. ⌜ r ≡ with s p ⌝ }
+{
+    s | (1u32 << p)
+}
+
+// The set with one member less, or the same set where the point is none.
+pub fn without(s: u32, p: usize) -> u32
+    requires { ⌜ p < 24 ⌝ }
+    ensures { λ r. ⌜ r ≡ without s p ⌝ }
+{
+    s - (s & (1u32 << p))
+}
+
+// How many points are members.
+pub fn count(s: u32) -> u32
+    ensures { λ r. ⌜ r ≡ members s 32 ⌝ }
+{
+    u32::count_ones(s)
+}
+
+// How many of three different points are members.
+fn of_three(s: u32, a: usize, b: usize, c: usize) -> u32
+    requires { ⌜ (a < 24) × (b < 24) × (c < 24) ⌝ }
+    requires { ⌜ (b ≡ a → ⊥) × (c ≡ a → ⊥) × (c ≡ b → ⊥) ⌝ }
+    ensures { λ r. ⌜ r ≡ bit s a + bit s b + bit s c ⌝ }
+{
+    u32::count_ones(s & with(with(with(0, a), b), c))
+}
+
+// Whether three different points are all members: a count of three decides.
+pub fn has_all(s: u32, a: usize, b: usize, c: usize) -> bool
+    requires { ⌜ (a < 24) × (b < 24) × (c < 24) ⌝ }
+    requires { ⌜ (b ≡ a → ⊥) × (c ≡ a → ⊥) × (c ≡ b → ⊥) ⌝ }
+    ensures { λ r. ⌜ r ≡ hasAll s a b c ⌝ }
+{
+    of_three(s, a, b, c) == 3
+}
