@@ -1,0 +1,36 @@
+-- Counts and values of a board are those of its reading, and of its parts together. Assumes nothing.
+use mathlib.Core.Path.{_≡_, refl, sym, ap, _∙_}
+use mathlib.Core.Bool.{Bool}
+use mathlib.Core.List.{List, [], _∷_, _++_, reverse, reverse-cons}
+use Prim.Native.Nat.{ℕ, _+_, _≤_}
+use native.Mathlib.Omega.{arith}
+use lib.Dec.{eqb}
+use lib.ListN.{length}
+use Rattle.board.specs.Board.{Values, more, count, digit}
+use Rattle.board.proofs.Sides.{more-digit, digit-lt}
+
+pub count-append : (v : ℕ) (a b : List ℕ) → count v (a ++ b) ≡ count v a + count v b
+count-append v [] b = omega arith
+count-append v (x ∷ a) b =
+    omega (arith, more-digit (eqb x v) (count v (a ++ b)), more-digit (eqb x v) (count v a), count-append v a b)
+
+-- one point more
+pub count-more : (v : ℕ) (b : List ℕ) (x : ℕ) → count v (b ++ (x ∷ [])) ≡ count v b + digit (eqb x v)
+count-more v b x = omega (arith, count-append v b (x ∷ []), more-digit (eqb x v) 0)
+
+pub count-reverse : (v : ℕ) (b : List ℕ) → count v (reverse b) ≡ count v b
+count-reverse v [] = refl
+count-reverse v (x ∷ b) =
+    ap (count v) (reverse-cons x b) ∙ omega (arith, count-more v (reverse b) x, count-reverse v b, more-digit (eqb x v) (count v b))
+
+pub count-le : (v : ℕ) (b : List ℕ) → count v b ≤ length b
+count-le v [] = omega arith
+count-le v (x ∷ b) = omega (arith, more-digit (eqb x v) (count v b), digit-lt (eqb x v), count-le v b)
+
+pub values-append : (a b : List ℕ) → Values a → Values b → Values (a ++ b)
+values-append [] b p q = q
+values-append (x ∷ a) b p q = (p .0, values-append a b (p .1) q)
+
+pub values-reverse : (b : List ℕ) → Values b → Values (reverse b)
+values-reverse [] p = tt
+values-reverse (x ∷ b) p = rw (reverse-cons x b) (values-append (reverse b) (x ∷ []) (values-reverse b (p .1)) (p .0, tt))

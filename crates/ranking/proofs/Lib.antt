@@ -1,0 +1,5 @@
+pub mod Binomial
+pub mod Size
+pub mod Counts
+pub mod Reading
+pub mod Inverse

@@ -1,0 +1,5 @@
+pub mod Size
+pub mod Rank
+pub mod Unrank
+pub mod Layout
+pub mod Binomial

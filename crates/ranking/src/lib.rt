@@ -1,0 +1,1 @@
+// Sizes, ranks, boards of ranks, and the layout of a tablebase.
