@@ -14,7 +14,7 @@ use lib.Seq.{drop-cons, ext-getD}
 use Rattle.sets.specs.Sets.{bit, has, members}
 use Rattle.sets.proofs.Laws.{bit-zero, bit-suc, members-all}
 use Rattle.board.specs.declared.position.Position.{Position}
-use Rattle.board.specs.Board.{Values, more, count, digit, setOf, positionOf, valueAt, boardOf, OnBoard}
+use Rattle.board.specs.Board.{Values, more, count, digit, setOf, positionOf, valueAt, values, boardOf, OnBoard}
 use Rattle.board.proofs.Table.{rule, length-values}
 
 pub digit-lt : (b : Bool) → digit b < 2
@@ -115,3 +115,22 @@ position-on b = record {
   opponent-within = set-lt 2 b;
   apart = λ q h. omega (arith, bit-set 1 b q h, bit-set 2 b q h, apart-digits (getD b q 0));
 }
+
+-- two digits that are not both 1 make a value
+two-digits : (x y : ℕ) → x + y ≤ 1 → digit (eqb x 1) + 2 * digit (eqb y 1) ≤ 2
+two-digits zero zero h = omega arith
+two-digits (suc zero) zero h = omega arith
+two-digits zero (suc zero) h = omega arith
+two-digits zero (suc (suc y)) h = absurd (omega arith)
+two-digits (suc zero) (suc y) h = absurd (omega arith)
+two-digits (suc (suc x)) y h = absurd (omega arith)
+
+values-all : (f : ℕ → ℕ) (n i : ℕ) → ((q : ℕ) → q < i + n → f q ≤ 2) → Values (values f i n)
+values-all f zero i h = tt
+values-all f (suc n) i h = (h i (omega arith), values-all f n (suc i) (λ q l. h q (omega arith)))
+
+-- the board of a position has no other values than 0, 1 and 2
+pub board-values : (points : ℕ) (p : Position) → OnBoard points p → Values (boardOf points p)
+unfolding boardOf valueAt
+board-values points p w =
+    values-all (valueAt p) points 0 (λ q h. two-digits (bit (p .mover) q) (bit (p .opponent) q) (w .apart q (omega arith)))

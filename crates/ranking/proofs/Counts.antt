@@ -2,10 +2,10 @@
 use mathlib.Core.Path.{_≡_, refl, sym, ap, _∙_}
 use mathlib.Core.Bool.{Bool}
 use mathlib.Core.List.{List, [], _∷_, _++_, reverse, reverse-cons}
-use Prim.Native.Nat.{ℕ, _+_, _≤_}
+use Prim.Native.Nat.{ℕ, zero, suc, _+_, _≤_}
 use native.Mathlib.Omega.{arith}
 use lib.Dec.{eqb}
-use lib.ListN.{length}
+use lib.ListN.{length, take}
 use Rattle.board.specs.Board.{Values, more, count, digit}
 use Rattle.board.proofs.Sides.{more-digit, digit-lt}
 
@@ -34,3 +34,8 @@ values-append (x ∷ a) b p q = (p .0, values-append a b (p .1) q)
 pub values-reverse : (b : List ℕ) → Values b → Values (reverse b)
 values-reverse [] p = tt
 values-reverse (x ∷ b) p = rw (reverse-cons x b) (values-append (reverse b) (x ∷ []) (values-reverse b (p .1)) (p .0, tt))
+
+pub values-take : (n : ℕ) (b : List ℕ) → Values b → Values (take n b)
+values-take zero b p = tt
+values-take (suc n) [] p = tt
+values-take (suc n) (x ∷ b) p = (p .0, values-take n b (p .1))

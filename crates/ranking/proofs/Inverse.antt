@@ -13,7 +13,7 @@ use Rattle.ranking.specs.Size.{size}
 use Rattle.ranking.specs.Rank.{readingRank, rank}
 use Rattle.ranking.specs.Unrank.{sizeWithOne, below, topValue, readingOf, unrank}
 use Rattle.ranking.proofs.Counts.{count-reverse, values-reverse}
-use Rattle.ranking.proofs.Size.{sizeWithTwo, size-more, size-none, size-over}
+use Rattle.ranking.proofs.Multinomials.{sizeWithTwo, size-more, size-none, size-over}
 use Rattle.ranking.proofs.Reading.{rank-nil, rank-cons, rank-lt}
 
 -- the value at the highest point, by the tests
@@ -31,7 +31,7 @@ module _ (n m o r : ℕ) where
   top-two h = rw (le-ltb r (below 1 n m o) (omega arith), le-ltb r (below 2 n m o) h, topValue)
 
   -- the reading, once that value is known
-  reading-cons : (x : ℕ) → topValue n m o r ≡ x
+  pub reading-cons : (x : ℕ) → topValue n m o r ≡ x
       → readingOf (suc n) m o r ≡ x ∷ readingOf n (m - digit (eqb x 1)) (o - digit (eqb x 2)) (r - below x n m o)
   unfolding readingOf
   reading-cons x e =

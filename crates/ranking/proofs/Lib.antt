@@ -1,5 +1,9 @@
-pub mod Binomial
-pub mod Size
+pub mod Binomials
+pub mod Multinomials
 pub mod Counts
 pub mod Reading
 pub mod Inverse
+pub mod Steps
+pub mod Parts
+pub mod Places
+pub mod OneToOne

@@ -11,7 +11,7 @@ use Rattle.board.specs.Board.{Values, count}
 use Rattle.ranking.specs.Size.{size}
 use Rattle.ranking.specs.Rank.{before, hasCounts, howMany, readingRank}
 use Rattle.ranking.specs.Unrank.{sizeWithOne, below}
-use Rattle.ranking.proofs.Size.{sizeWithTwo, size-more, size-none, size-over}
+use Rattle.ranking.proofs.Multinomials.{sizeWithTwo, size-more, size-none, size-over}
 
 none : (f : List ℕ → Bool) (n : ℕ) → ((xs : List ℕ) → f xs ≡ false) → howMany f n ≡ 0
 none f zero h = rw (h [])

@@ -18,9 +18,13 @@ table m o = record { mover = m; opponent = o }
 abbrev pub stones : ℕ → List ℕ
 stones k = range 3 (k - 2)
 
+-- the tables (m, 3), .., (m, k)
+abbrev pub row : ℕ → ℕ → List Table
+row k m = map (λ o. table m o) (stones k)
+
 -- the tables of largest count k, in their order
 unfoldable pub tables : ℕ → ℕ → List Table
-tables points k = keep (λ t. leb (t .mover + t .opponent) points) (each (λ m. map (λ o. table m o) (stones k)) (stones k))
+tables points k = keep (λ t. leb (t .mover + t .opponent) points) (each (λ m. row k m) (stones k))
 
 -- how many entries tables hold together
 abbrev pub entries : ℕ → List Table → ℕ

@@ -10,6 +10,6 @@ factorial (suc n) = suc n * factorial n
 -- P! / (m! × o! × (P − m − o)!), for table (m, o) on P points; there is no board with more stones than points
 unfoldable pub size : ℕ → ℕ → ℕ → ℕ
 size points m o = elim (leb (m + o) points) [
-    | true ↦ factorial points / (factorial m * factorial o * factorial (points - (m + o)))
-    | false ↦ 0
-  ]
+  | true ↦ factorial points / (factorial m * factorial o * factorial (points - (m + o)))
+  | false ↦ 0
+]

@@ -9,7 +9,7 @@ use borrow.Author.Tests.{leb-true, leb-false, lt-leb, ltb-true, ltb-false}
 use Rattle.ranking.specs.Binomial.{binomial}
 use Rattle.ranking.specs.Size.{factorial, size}
 use Rattle.ranking.specs.Unrank.{sizeWithOne}
-use Rattle.ranking.proofs.Binomial.{pascal, binomial-zero, binomial-none, binomial-over, binomial-small, binomial-factorial}
+use Rattle.ranking.proofs.Binomials.{pascal, binomial-zero, binomial-none, binomial-over, binomial-small, binomial-factorial}
 
 -- the ways to choose m of n points, and then o of those left
 abbrev pub ways : ℕ → ℕ → ℕ → ℕ
@@ -72,11 +72,26 @@ pub size-more : (n m o : ℕ) → size (suc n) m o ≡ size n m o + sizeWithOne 
 size-more n zero zero =
     rw (size-ways (suc n) 0 0, size-ways n 0 0, sub-zero (suc n), sub-zero n, binomial-zero (suc n), binomial-zero n) refl
 size-more n zero (suc o) =
-    rw (size-ways (suc n) 0 (suc o), size-ways n 0 (suc o), size-ways n 0 o, sub-zero (suc n), sub-zero n, binomial-zero (suc n),
-    binomial-zero n, pascal n o) (omega arith)
+    rw (
+      size-ways (suc n) 0 (suc o),
+      size-ways n 0 (suc o),
+      size-ways n 0 o,
+      sub-zero (suc n),
+      sub-zero n,
+      binomial-zero (suc n),
+      binomial-zero n,
+      pascal n o,
+    ) (omega arith)
 size-more n (suc m) zero =
-    rw (size-ways (suc n) (suc m) 0, size-ways n (suc m) 0, size-ways n m 0, binomial-zero (suc n - suc m), binomial-zero (n - suc m),
-    binomial-zero (n - m), pascal n m) (omega arith)
+    rw (
+      size-ways (suc n) (suc m) 0,
+      size-ways n (suc m) 0,
+      size-ways n m 0,
+      binomial-zero (suc n - suc m),
+      binomial-zero (n - suc m),
+      binomial-zero (n - m),
+      pascal n m,
+    ) (omega arith)
 size-more n (suc m) (suc o) =
     rw (size-ways (suc n) (suc m) (suc o), size-ways n (suc m) (suc o), size-ways n m (suc o), size-ways n (suc m) o, suc-sub-suc n m, pascal n m)
     (go (ltb m n) refl)
