@@ -1,0 +1,104 @@
+-- What the conditions say where they do not hold, and the step of the loop that looks for a wrong value. Assumes nothing.
+use mathlib.Core.Path.{_≡_, refl, ap, subst, _∙_}
+use mathlib.Core.Bool.{Bool, true, false, not, _||_, false≢true}
+use mathlib.Core.List.{List, [], _∷_}
+use Prim.Native.Nat.{ℕ, zero, suc, _+_, _-_, _*_, _≤_, _<_}
+use native.Mathlib.Omega.{arith}
+use lib.Dec.{T, eqb, ltb}
+use lib.ListN.{length, getD, drop}
+use lib.Seq.{drop-cons}
+use borrow.Author.Tests.{ltb-false, leb-false, eqb-true, not-false}
+use Rattle.board.specs.Board.{Values, count}
+use Rattle.ranking.specs.Size.{size}
+use Rattle.morris.specs.Refusals.{table, pickedRows, refusal, boardPicks, rankPicks, ringsWrong, lengthWrong, valueWrong, countsWrong}
+use Rattle.morris.proofs.FirstRefusal.{passed}
+
+or-left : (a b : Bool) → (a || b) ≡ false → a ≡ false
+or-left false b e = refl
+or-left true b e = e
+
+or-right : (a b : Bool) → (a || b) ≡ false → b ≡ false
+or-right false b e = e
+or-right true b e = absurd (subst T e tt)
+
+pub rings-right : (rings : ℕ) → ringsWrong rings ≡ false → (1 ≤ rings) × (rings ≤ 3)
+rings-right rings e =
+    (ltb-false rings 1 (or-left (ltb rings 1) (ltb 3 rings) e), ltb-false 3 rings (or-right (ltb rings 1) (ltb 3 rings) e))
+
+pub length-right : (rings n : ℕ) → lengthWrong rings n ≡ false → n ≡ 8 * rings
+length-right rings n e = eqb-true n (8 * rings) (not-false (eqb n (8 * rings)) e)
+
+pub values-right : (b : List ℕ) → valueWrong b ≡ false → Values b
+unfolding valueWrong
+values-right [] e = tt
+values-right (x ∷ b) e =
+    (ltb-false 2 x (or-left (ltb 2 x) (valueWrong b) e), values-right b (or-right (ltb 2 x) (valueWrong b) e))
+
+-- one value more, from the highest point down
+pub value-step : (i : ℕ) (b : List ℕ) → 0 < i → i ≤ length b
+    → valueWrong (drop (i - 1) b) ≡ (ltb 2 (getD b (i - 1) 0) || valueWrong (drop i b))
+unfolding valueWrong
+value-step i b p h =
+    let e : suc (i - 1) ≡ i = omega arith in
+    ap valueWrong (drop-cons b (i - 1) 0 (omega arith)) ∙ ap (λ (k : ℕ). ltb 2 (getD b (i - 1) 0) || valueWrong (drop k b)) e
+
+-- what right counts are
+pub record Counted (points m o : ℕ) : Type 0 where
+  pub mover-low : 3 ≤ m
+  pub mover-high : m ≤ 9
+  pub opponent-low : 3 ≤ o
+  pub opponent-high : o ≤ 9
+  pub stones-fit : m + o ≤ points
+
+pub counts-right : (points m o : ℕ) → countsWrong points m o ≡ false → Counted points m o
+counts-right points m o e =
+    let a = ltb m 3 in
+    let b = ltb 9 m in
+    let c = ltb o 3 in
+    let d = ltb 9 o in
+    let f = ltb points (m + o) in
+    let e4 = or-left (a || b || c || d) f e in
+    let e3 = or-left (a || b || c) d e4 in
+    let e2 = or-left (a || b) c e3 in
+    record {
+      mover-low = ltb-false m 3 (or-left a b e2);
+      mover-high = ltb-false 9 m (or-right a b e2);
+      opponent-low = ltb-false o 3 (or-right (a || b) c e3);
+      opponent-high = ltb-false 9 o (or-right (a || b || c) d e4);
+      stones-fit = ltb-false points (m + o) (or-right (a || b || c || d) f e);
+    }
+
+-- an accepted board
+pub record Accepted (rings : ℕ) (b : List ℕ) : Type 0 where
+  pub rings-low : 1 ≤ rings
+  pub rings-high : rings ≤ 3
+  pub points : length b ≡ 8 * rings
+  pub values : Values b
+  pub counted : Counted (8 * rings) (count 1 b) (count 2 b)
+
+pub accepted-board : (rings : ℕ) (b : List ℕ) → refusal (boardPicks rings b) ≡ 0 → Accepted rings b
+accepted-board rings b e =
+    let p = passed (pickedRows table (boardPicks rings b)) refl e in
+    let r = rings-right rings (p .0) in
+    record {
+      rings-low = r .0;
+      rings-high = r .1;
+      points = length-right rings (length b) (p .1 .0);
+      values = values-right b (p .1 .1 .0);
+      counted = counts-right (8 * rings) (count 1 b) (count 2 b) (p .1 .1 .1 .0);
+    }
+
+-- accepted counts, rank and target
+pub record AcceptedRank (rings m o r room : ℕ) : Type 0 where
+  pub rings-high : rings ≤ 3
+  pub points : room ≡ 8 * rings
+  pub rank-low : r < size (8 * rings) m o
+
+pub accepted-rank : (rings m o r room : ℕ) → refusal (rankPicks rings m o r room) ≡ 0 → AcceptedRank rings m o r room
+accepted-rank rings m o r room e =
+    let p = passed (pickedRows table (rankPicks rings m o r room)) refl e in
+    record {
+      rings-high = rings-right rings (p .0) .1;
+      points = length-right rings room (p .1 .1 .0);
+      rank-low = leb-false (size (8 * rings) m o) r (p .1 .1 .1 .0);
+    }

@@ -1,0 +1,3 @@
+pub mod FirstRefusal
+pub mod Conditions
+pub mod Answering

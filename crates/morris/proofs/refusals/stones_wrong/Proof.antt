@@ -1,0 +1,49 @@
+-- `morris::refusals::stones_wrong` meets its contract: the members of each side's set are its stones. Assumes nothing.
+use mathlib.Core.Path.{_≡_, ap, ap₂, _∙_}
+use mathlib.Core.List.{List}
+use Prim.Native.Nat.{ℕ}
+use native.Mathlib.Omega.{arith}
+use borrow.Author.Needs.{needs}
+use Rattle.sets.specs.Sets.{members}
+use Rattle.sets.proofs.Laws.{members-le}
+use Rattle.board.specs.Board.{positionOf}
+use Rattle.board.specs.declared.position.Position.{Position}
+use Rattle.board.proofs.Sides.{members-count}
+use Rattle.morris.specs.Refusals.{countsWrong}
+use Rattle.morris.proofs.refusals.stones_wrong.Statement.{statement}
+use Rattle.morris.proofs.refusals.stones_wrong.Tie as tie
+use Rattle.morris.proofs.refusals.stones_wrong.Reads as reads
+use Rattle.morris.proofs.refusals.stones_wrong.Lts as lts
+use Rattle.board.proofs.position_of.Reads as position-of-reads
+use Rattle.morris.proofs.refusals.counts_wrong.Reads as counts-wrong-reads
+use Rattle.sets.proofs.count.Reads as count-reads
+
+position-of-requires : tie.Need-position-of-requires
+position-of-requires c κs = search needs
+
+count-requires : tie.Need-count-requires
+count-requires c κs = search needs
+
+count-requires-2 : tie.Need-count-requires-2
+count-requires-2 c κs = search needs
+
+counts-wrong-requires : tie.Need-counts-wrong-requires
+counts-wrong-requires c κs =
+    let p = c .before .before .position-of .result in
+    omega (arith, c .before .count .ensures, c .count2 .ensures, members-le (p .mover) 32, members-le (p .opponent) 32)
+
+returns : tie.Need-returns
+unfolding positionOf
+returns c =
+    let s = c .before .before .before .before .before in
+    let b : List ℕ = s .args .board .now in
+    let e = c .before .before .before .position-of .ensures in
+    c .counts-wrong .ensures
+    ∙ ap₂ (λ (m o : ℕ). countsWrong (s .args .points) m o)
+    (c .before .before .count .ensures ∙ ap (λ (p : Position). members (p .mover) 32) e ∙ members-count 1 b (s .pre))
+    (c .before .count2 .ensures ∙ ap (λ (p : Position). members (p .opponent) 32) e ∙ members-count 2 b (s .pre))
+
+pub stones-wrong-spec : {M : Type 1} → statement M
+stones-wrong-spec =
+    tie.close
+    (tie.spec position-of-requires count-requires count-requires-2 counts-wrong-requires returns)

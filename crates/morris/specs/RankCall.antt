@@ -1,0 +1,17 @@
+-- The call `rank` (document 01: "rings and a board, for its rank"). Assumes nothing.
+use mathlib.Core.List.{List, [], _∷_}
+use Prim.Native.Nat.{ℕ}
+use Rattle.ranking.specs.Rank.{rank}
+use Rattle.morris.specs.Refusals.{refusal, boardPicks}
+use Rattle.morris.specs.Answers.{Answer, accepted, refused, answer}
+use Rattle.morris.specs.declared.Ranked.{Ranked}
+use Rattle.morris.specs.declared.Ranked.the-variants.{Rank, Refused}
+
+-- document 01's number and value of each case
+abbrev pub ranked : Ranked → Answer
+ranked (Rank r) = accepted (r ∷ [])
+ranked (Refused n) = refused n
+
+-- 1, 2, 3, 4; else the rank
+unfoldable pub rankCall : ℕ → List ℕ → Answer
+rankCall rings b = answer (refusal (boardPicks rings b)) (rank b ∷ [])

@@ -1,0 +1,127 @@
+-- Where a call is turned back (document 01, the table of that name): "Places are taken from top to bottom, conditions left to right; a call
+-- meets those that concern its arguments." Assumes nothing.
+use mathlib.Core.Bool.{Bool, true, false, not, _||_}
+use mathlib.Core.List.{List, [], _∷_, _++_}
+use Prim.Native.Nat.{ℕ, _+_, _*_}
+use lib.Dec.{eqb, leb, ltb}
+use lib.ListN.{length}
+use Rattle.board.specs.Board.{count}
+use Rattle.ranking.specs.Size.{size}
+
+-- the conditions, by what is wrong
+pub data Condition : Type 0 where
+  wrongFrame wrongRings wrongLength wrongValue wrongCounts wrongLargest wrongTablebase wrongLimit : Condition
+  wrongTarget shortTarget wrongRank wrongMove blockedMover voidEntry tooDeep : Condition
+
+-- a row: a condition, and the number of its refusal
+pub record Row : Type 0 where
+  pub condition : Condition
+  pub number : ℕ
+
+abbrev pub row : Condition → ℕ → Row
+row c n = record { condition = c; number = n }
+
+-- the table
+abbrev pub table : List Row
+table =
+    row wrongFrame 14
+    ∷ row wrongRings 1
+    ∷ row wrongLength 2 ∷ row wrongValue 3
+    ∷ row wrongCounts 4
+    ∷ row wrongLargest 11 ∷ row wrongTablebase 6
+    ∷ row wrongLimit 10
+    ∷ row wrongTarget 6 ∷ row shortTarget 7
+    ∷ row wrongRank 5 ∷ row wrongMove 8 ∷ row blockedMover 9
+    ∷ row voidEntry 12
+    ∷ row tooDeep 13
+    ∷ []
+
+-- conditions told apart
+abbrev pub index : Condition → ℕ
+index wrongFrame = 0
+index wrongRings = 1
+index wrongLength = 2
+index wrongValue = 3
+index wrongCounts = 4
+index wrongLargest = 5
+index wrongTablebase = 6
+index wrongLimit = 7
+index wrongTarget = 8
+index shortTarget = 9
+index wrongRank = 10
+index wrongMove = 11
+index blockedMover = 12
+index voidEntry = 13
+index tooDeep = 14
+
+-- what a call picks of the table: a condition that concerns its arguments, and whether it holds
+pub record Pick : Type 0 where
+  pub condition : Condition
+  pub holds : Bool
+
+abbrev pub pick : Condition → Bool → Pick
+pick c b = record { condition = c; holds = b }
+
+-- a picked row: whether its condition holds, and its number
+pub record Picked : Type 0 where
+  pub holds : Bool
+  pub number : ℕ
+
+-- the row, if it is picked
+abbrev pub pickedRow : Row → List Pick → List Picked
+pickedRow r [] = []
+pickedRow r (p ∷ ps) =
+    elim (eqb (index (r .condition)) (index (p .condition))) [ true ↦ record { holds = p .holds; number = r .number } ∷ [] | false ↦ pickedRow r ps ]
+
+-- the picked rows, in the table's order
+abbrev pub pickedRows : List Row → List Pick → List Picked
+pickedRows [] ps = []
+pickedRows (r ∷ rs) ps = pickedRow r ps ++ pickedRows rs ps
+
+-- the number of the first row whose condition holds, and 0 where none does
+abbrev pub first : List Picked → ℕ
+first [] = 0
+first (r ∷ rs) = elim (r .holds) [ true ↦ r .number | false ↦ first rs ]
+
+-- the refusal that a call meets, 0 for none
+abbrev pub refusal : List Pick → ℕ
+refusal ps = first (pickedRows table ps)
+
+-- 1: not 1, 2 or 3
+abbrev pub ringsWrong : ℕ → Bool
+ringsWrong rings = ltb rings 1 || ltb 3 rings
+
+-- 2 and 6: the length of a board is not 8 × rings
+abbrev pub lengthWrong : ℕ → ℕ → Bool
+lengthWrong rings n = not (eqb n (8 * rings))
+
+-- 3: a value above 2
+unfoldable pub valueWrong : List ℕ → Bool
+valueWrong [] = false
+valueWrong (x ∷ b) = ltb 2 x || valueWrong b
+
+-- 4: a count outside 3 to 9, or a sum above the points
+abbrev pub countsWrong : ℕ → ℕ → ℕ → Bool
+countsWrong points m o = ltb m 3 || ltb 9 m || ltb o 3 || ltb 9 o || ltb points (m + o)
+
+-- 5: a rank not below the size
+abbrev pub rankWrong : ℕ → ℕ → ℕ → ℕ → Bool
+rankWrong points m o r = leb (size points m o) r
+
+-- what every call picks for rings and a board
+abbrev pub boardPicks : ℕ → List ℕ → List Pick
+boardPicks rings b =
+    pick wrongRings (ringsWrong rings)
+    ∷ pick wrongLength (lengthWrong rings (length b))
+    ∷ pick wrongValue (valueWrong b)
+    ∷ pick wrongCounts (countsWrong (8 * rings) (count 1 b) (count 2 b))
+    ∷ []
+
+-- what a call picks for rings, counts, a rank and a target of so many bytes
+abbrev pub rankPicks : ℕ → ℕ → ℕ → ℕ → ℕ → List Pick
+rankPicks rings m o r room =
+    pick wrongRings (ringsWrong rings)
+    ∷ pick wrongCounts (countsWrong (8 * rings) m o)
+    ∷ pick wrongTarget (lengthWrong rings room)
+    ∷ pick wrongRank (rankWrong (8 * rings) m o r)
+    ∷ []

@@ -1,0 +1,55 @@
+// Tablebases of Nine Men's Morris: the public calls.
+//
+// Every call answers on every input: its result, or the number of the first refusal of document 01's table that it meets, and then each lent
+// buffer is as it was. `docs/PROMISES.md` says which sentence of the papers each contract states.
+mod refusals;
+
+ghost use mathlib.Core.Path.{_≡_};
+ghost use Rattle.morris.specs.RankCall.{ranked, rankCall};
+ghost use Rattle.morris.specs.UnrankCall.{unranked, unrankCall, unrankTarget};
+
+// The rank of a board, or the number of a refusal.
+pub enum Ranked {
+    Rank(u64),
+    Refused(u8),
+}
+
+// The rank of a board of 8 × rings bytes, 0 vacant, 1 the side to move, 2 the other side. Refusals: 1, 2, 3, 4.
+pub fn rank(rings: u8, board: &[u8]) -> Ranked
+    ensures { λ r. ⌜ ranked r ≡ rankCall rings (now (board .entry)) ⌝ }
+{
+    let refusal = refusals::of_board(rings, board);
+    if refusal != 0 {
+        return Ranked::Refused(refusal);
+    }
+    let binomials = ranking::binomial_table();
+    let position = board::position_of(board);
+    Ranked::Rank(ranking::rank(&binomials, board.len(), position) as u64)
+}
+
+// The target was written, or the number of a refusal.
+pub enum Unranked {
+    Written,
+    Refused(u8),
+}
+
+// Writes the board of a rank among those of the given counts over the target, of 8 × rings bytes. Refusals: 1, 4, 6, 5.
+pub fn unrank(rings: u8, mover: u8, opponent: u8, rank: u64, target: &mut [u8]) -> Unranked
+    ensures answer { λ r. ⌜ unranked r ≡ unrankCall rings mover opponent rank (now (target .entry)) ⌝ }
+    ensures target { λ _. ⌜ now (target .exit) ≡ unrankTarget rings mover opponent rank (now (target .entry)) ⌝ }
+{
+    let binomials = ranking::binomial_table();
+    let refusal = refusals::of_rank(&binomials, rings, mover, opponent, rank, target.len());
+    if refusal != 0 {
+        return Unranked::Refused(refusal);
+    }
+    let position = ranking::unrank(
+        &binomials,
+        target.len(),
+        mover as usize,
+        opponent as usize,
+        rank as usize,
+    );
+    board::write_board(position, target);
+    Unranked::Written
+}

@@ -1,0 +1,108 @@
+// The conditions of document 01's table, and the first that a call's arguments meet.
+ghost use mathlib.Core.Path.{_≡_};
+ghost use Prim.Native.Nat.{_≤_};
+ghost use lib.ListN.{length};
+ghost use Rattle.board.specs.Board.{count};
+ghost use Rattle.morris.specs.Refusals.{ringsWrong, valueWrong, countsWrong, refusal, boardPicks, rankPicks};
+ghost use Rattle.ranking.specs.Binomial.{BinomialTable};
+
+// The refusal numbers of document 01.
+const RINGS: u8 = 1;
+
+const BOARD_LENGTH: u8 = 2;
+
+const BOARD_VALUE: u8 = 3;
+
+const COUNTS: u8 = 4;
+
+const RANK: u8 = 5;
+
+const TARGET_LENGTH: u8 = 6;
+
+// Rings other than 1, 2 or 3.
+fn rings_wrong(rings: u8) -> bool
+    ensures { λ r. ⌜ r ≡ ringsWrong rings ⌝ }
+{
+    (rings < 1) | (3 < rings)
+}
+
+// A value above 2.
+fn value_wrong(board: &[u8]) -> bool
+    ensures { λ r. ⌜ r ≡ valueWrong (now (board .entry)) ⌝ }
+{
+    let mut found = false;
+    let mut i = board.len();
+    while 0 < i {
+        i -= 1;
+        found = (2 < board[i]) | found;
+    }
+    found
+}
+
+// A count outside 3 to 9, or a sum above the points.
+fn counts_wrong(points: u32, m: u32, o: u32) -> bool
+    requires { ⌜ (m ≤ 255) × (o ≤ 255) ⌝ }
+    ensures { λ r. ⌜ r ≡ countsWrong points m o ⌝ }
+{
+    (m < 3) | (9 < m) | (o < 3) | (9 < o) | (points < m + o)
+}
+
+// The counts of a board's stones.
+fn stones_wrong(points: u32, board: &[u8]) -> bool
+    requires { ⌜ length (now board) ≤ 24 ⌝ }
+    ensures { λ r. ⌜ r ≡ countsWrong points (count 1 (now (board .entry))) (count 2 (now (board .entry))) ⌝ }
+{
+    let position = board::position_of(board);
+    let mover = position.mover;
+    let opponent = position.opponent;
+    counts_wrong(points, sets::count(mover), sets::count(opponent))
+}
+
+// The first refusal that rings and a board meet, or 0.
+pub fn of_board(rings: u8, board: &[u8]) -> u8
+    ensures { λ r. ⌜ r ≡ refusal (boardPicks rings (now (board .entry))) ⌝ }
+{
+    if rings_wrong(rings) {
+        return RINGS;
+    }
+    let points = 8 * rings;
+    if board.len() != points as usize {
+        return BOARD_LENGTH;
+    }
+    if value_wrong(board) {
+        return BOARD_VALUE;
+    }
+    if stones_wrong(points as u32, board) {
+        return COUNTS;
+    }
+    0
+}
+
+// The first refusal that rings, counts, a rank and a target of so many bytes meet, or 0.
+pub fn of_rank(
+    binomials: &[u32; 625],
+    rings: u8,
+    mover: u8,
+    opponent: u8,
+    rank: u64,
+    room: usize,
+) -> u8
+    requires { ⌜ BinomialTable (now binomials) ⌝ }
+    ensures { λ r. ⌜ r ≡ refusal (rankPicks rings mover opponent rank room) ⌝ }
+{
+    if rings_wrong(rings) {
+        return RINGS;
+    }
+    let points = 8 * rings as usize;
+    if counts_wrong(points as u32, mover as u32, opponent as u32) {
+        return COUNTS;
+    }
+    if room != points {
+        return TARGET_LENGTH;
+    }
+    let size = ranking::size(binomials, points, mover as usize, opponent as usize);
+    if size as u64 <= rank {
+        return RANK;
+    }
+    0
+}
