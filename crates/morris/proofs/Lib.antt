@@ -1,3 +1,4 @@
 pub mod FirstRefusal
 pub mod Conditions
 pub mod Answering
+pub mod Starred

@@ -2,3 +2,4 @@ pub mod Refusals
 pub mod Answers
 pub mod RankCall
 pub mod UnrankCall
+pub mod Cases

@@ -1,0 +1,158 @@
+// Runs cases of document 01 and prints a line for each: the call, its arguments, then what it answered. Boards are written as the papers
+// write them, from the highest point down. What is printed is compared with the file `stdout`; nothing of it is proved.
+ghost use Prim.Native.Nat.{_≤_};
+use libc::STDOUT_FILENO;
+use morris::Ranked;
+use morris::Unranked;
+
+fn text(s: &[u8]) {
+    io::write_all(STDOUT_FILENO, s);
+}
+
+fn number(n: u64) {
+    text(b" ");
+    io::print_decimal(STDOUT_FILENO, n);
+}
+
+// A board, from its last byte to its first.
+fn points(board: &[u8]) {
+    let mut i = board.len();
+    while 0 < i {
+        i -= 1;
+        io::print_decimal(STDOUT_FILENO, wide(board[i]));
+    }
+}
+
+fn wide(x: u8) -> u64 {
+    x as u64
+}
+
+fn refused(n: u8) {
+    text(b" refused");
+    number(n as u64);
+}
+
+// The rank of a board.
+fn rank(rings: u8, board: &[u8]) {
+    text(b"rank");
+    number(rings as u64);
+    text(b" ");
+    points(board);
+    text(b":");
+    match morris::rank(rings, board) {
+        Ranked::Rank(r) => number(r),
+        Ranked::Refused(n) => refused(n),
+    }
+    text(b"\n");
+}
+
+// The board of a rank, and what the target then holds.
+fn unrank(rings: u8, mover: u8, opponent: u8, rank: u64, target: &mut [u8]) {
+    text(b"unrank");
+    number(rings as u64);
+    number(mover as u64);
+    number(opponent as u64);
+    number(rank);
+    text(b":");
+    match morris::unrank(rings, mover, opponent, rank, target) {
+        Unranked::Written => text(b" written"),
+        Unranked::Refused(n) => refused(n),
+    }
+    text(b" ");
+    points(target);
+    text(b"\n");
+}
+
+// 1 where the board of a rank has that rank, else 0.
+fn comes_back(rings: u8, mover: u8, opponent: u8, rank: u64, target: &mut [u8]) -> u64
+    ensures { λ r. ⌜ r ≤ 1 ⌝ }
+{
+    let Unranked::Written = morris::unrank(rings, mover, opponent, rank, target) else {
+        return 0;
+    };
+    let Ranked::Rank(r) = morris::rank(rings, target) else {
+        return 0;
+    };
+    if r == rank { 1 } else { 0 }
+}
+
+// How many of the ranks below an end come back from their boards.
+fn back(rings: u8, mover: u8, opponent: u8, end: u64, target: &mut [u8]) -> u64 {
+    let mut n: u64 = 0;
+    let mut r: u64 = 0;
+    while r < end {
+        n += comes_back(rings, mover, opponent, r, target);
+        r += 1;
+    }
+    n
+}
+
+fn round_trips(rings: u8, mover: u8, opponent: u8, end: u64, target: &mut [u8]) {
+    text(b"round trips");
+    number(rings as u64);
+    number(mover as u64);
+    number(opponent as u64);
+    text(b":");
+    number(back(rings, mover, opponent, end, target));
+    text(b" of");
+    number(end);
+    text(b"\n");
+}
+
+// Starred: one ring, 3-3.
+fn ranks() {
+    rank(1, &[2, 2, 2, 1, 1, 1, 0, 0]);
+    rank(1, &[2, 2, 2, 1, 1, 0, 0, 1]);
+    rank(1, &[2, 2, 1, 1, 1, 0, 0, 2]);
+    rank(1, &[0, 0, 1, 1, 1, 2, 2, 2]);
+    rank(1, &[1, 1, 0, 2, 2, 1, 2, 0]);
+    rank(1, &[2, 0, 2, 0, 2, 1, 1, 1]);
+}
+
+// Each refusal of a board, and the first of two.
+fn refused_boards() {
+    rank(0, &[2, 2, 2, 1, 1, 1, 0, 0]);
+    rank(4, &[2, 2, 2]);
+    rank(1, &[2, 2, 2, 1, 1, 1, 0]);
+    rank(2, &[2, 2, 2, 1, 1, 1, 0, 3]);
+    rank(1, &[2, 2, 2, 1, 1, 1, 0, 3]);
+    rank(1, &[2, 2, 2, 1, 1, 3, 0, 0]);
+    rank(1, &[2, 2, 2, 1, 1, 0, 0, 0]);
+    rank(1, &[]);
+    rank(1, &[2, 2, 2, 1, 1, 1, 1, 1]);
+}
+
+// Boards of ranks on one ring, with a target of sevens: after a refusal it holds them still.
+fn one_ring() {
+    unrank(1, 3, 3, 0, &mut [7; 8]);
+    unrank(1, 3, 3, 559, &mut [7; 8]);
+    unrank(1, 3, 3, 560, &mut [7; 8]);
+    unrank(1, 5, 3, 0, &mut [7; 8]);
+    unrank(1, 5, 4, 0, &mut [7; 8]);
+    unrank(1, 2, 3, 0, &mut [7; 8]);
+    unrank(1, 3, 10, 0, &mut [7; 8]);
+    unrank(0, 3, 3, 0, &mut [7; 8]);
+    unrank(1, 3, 3, 560, &mut [7; 9]);
+    unrank(1, 5, 4, 560, &mut [7; 9]);
+    unrank(1, 3, 3, 18446744073709551615, &mut [7; 8]);
+}
+
+// Boards of ranks on three rings: the first and the last of the two sizes that document 01 gives.
+fn three_rings() {
+    unrank(3, 3, 3, 2691919, &mut [7; 24]);
+    unrank(3, 3, 3, 2691920, &mut [7; 24]);
+    unrank(3, 8, 8, 0, &mut [7; 24]);
+    unrank(3, 8, 8, 9465511769, &mut [7; 24]);
+    unrank(3, 8, 8, 9465511770, &mut [7; 24]);
+}
+
+fn main() {
+    ranks();
+    refused_boards();
+    one_ring();
+    three_rings();
+    round_trips(1, 3, 3, 560, &mut [0; 8]);
+    round_trips(1, 5, 3, 56, &mut [0; 8]);
+    round_trips(2, 3, 3, 160160, &mut [0; 16]);
+    round_trips(3, 3, 4, 10000, &mut [0; 24]);
+}
