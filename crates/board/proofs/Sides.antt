@@ -116,14 +116,19 @@ position-on b = record {
   apart = λ q h. omega (arith, bit-set 1 b q h, bit-set 2 b q h, apart-digits (getD b q 0));
 }
 
--- two digits that are not both 1 make a value
-two-digits : (x y : ℕ) → x + y ≤ 1 → digit (eqb x 1) + 2 * digit (eqb y 1) ≤ 2
-two-digits zero zero h = omega arith
-two-digits (suc zero) zero h = omega arith
-two-digits zero (suc zero) h = omega arith
-two-digits zero (suc (suc y)) h = absurd (omega arith)
-two-digits (suc zero) (suc y) h = absurd (omega arith)
-two-digits (suc (suc x)) y h = absurd (omega arith)
+-- what two digits that are not both 1 say of a point: a value, and from it the digits again
+pub record Said (x y : ℕ) : Type 0 where
+  pub low : digit (eqb x 1) + 2 * digit (eqb y 1) ≤ 2
+  pub mover : digit (eqb (digit (eqb x 1) + 2 * digit (eqb y 1)) 1) ≡ x
+  pub opponent : digit (eqb (digit (eqb x 1) + 2 * digit (eqb y 1)) 2) ≡ y
+
+pub said : (x y : ℕ) → x + y ≤ 1 → Said x y
+said zero zero h = record { low = omega arith; mover = refl; opponent = refl }
+said (suc zero) zero h = record { low = omega arith; mover = refl; opponent = refl }
+said zero (suc zero) h = record { low = omega arith; mover = refl; opponent = refl }
+said zero (suc (suc y)) h = absurd (omega arith)
+said (suc zero) (suc y) h = absurd (omega arith)
+said (suc (suc x)) y h = absurd (omega arith)
 
 values-all : (f : ℕ → ℕ) (n i : ℕ) → ((q : ℕ) → q < i + n → f q ≤ 2) → Values (values f i n)
 values-all f zero i h = tt
@@ -133,4 +138,4 @@ values-all f (suc n) i h = (h i (omega arith), values-all f n (suc i) (λ q l. h
 pub board-values : (points : ℕ) (p : Position) → OnBoard points p → Values (boardOf points p)
 unfolding boardOf valueAt
 board-values points p w =
-    values-all (valueAt p) points 0 (λ q h. two-digits (bit (p .mover) q) (bit (p .opponent) q) (w .apart q (omega arith)))
+    values-all (valueAt p) points 0 (λ q h. said (bit (p .mover) q) (bit (p .opponent) q) (w .apart q (omega arith)) .low)

@@ -90,15 +90,20 @@ accepted-board rings b e =
 
 -- accepted counts, rank and target
 pub record AcceptedRank (rings m o r room : ℕ) : Type 0 where
+  pub rings-low : 1 ≤ rings
   pub rings-high : rings ≤ 3
   pub points : room ≡ 8 * rings
+  pub counted : Counted (8 * rings) m o
   pub rank-low : r < size (8 * rings) m o
 
 pub accepted-rank : (rings m o r room : ℕ) → refusal (rankPicks rings m o r room) ≡ 0 → AcceptedRank rings m o r room
 accepted-rank rings m o r room e =
     let p = passed (pickedRows table (rankPicks rings m o r room)) refl e in
+    let q = rings-right rings (p .0) in
     record {
-      rings-high = rings-right rings (p .0) .1;
+      rings-low = q .0;
+      rings-high = q .1;
       points = length-right rings room (p .1 .1 .0);
+      counted = counts-right (8 * rings) m o (p .1 .0);
       rank-low = leb-false (size (8 * rings) m o) r (p .1 .1 .1 .0);
     }

@@ -1,4 +1,5 @@
 pub mod FirstRefusal
 pub mod Conditions
 pub mod Answering
+pub mod RoundTrip
 pub mod Starred

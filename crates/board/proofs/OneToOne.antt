@@ -1,0 +1,51 @@
+-- Boards of so many points and their positions are one-to-one, and a position's sets count its stones: with `board-position`, the two ways
+-- between bytes and sets undo each other. Assumes nothing.
+use mathlib.Core.Path.{_≡_, refl, sym, ap, ap₂, _∙_, subst}
+use Prim.Native.Nat.{ℕ, zero, suc, _+_, _*_, _/_, _%_, _^_, _≤_, _<_}
+use native.Mathlib.Nat.{pow-suc, lt-of-lt-of-le}
+use native.Mathlib.Omega.{arith}
+use lib.Dec.{eqb}
+use lib.Pow.{pow-mono}
+use lib.ListN.{length}
+use Rattle.sets.specs.Sets.{bit, members}
+use Rattle.sets.proofs.Laws.{bit-zero, bit-suc}
+use Rattle.board.specs.declared.position.Position.{Position}
+use Rattle.board.specs.Board.{count, digit, setOf, positionOf, valueAt, boardOf, OnBoard}
+use Rattle.board.proofs.Sides.{set-lt, bit-set, members-count, length-board, board-at, said}
+
+-- sets below 2 ^ n with the same members are the same
+same-set : (n s t : ℕ) → s < 2 ^ n → t < 2 ^ n → ((p : ℕ) → p < n → bit s p ≡ bit t p) → s ≡ t
+same-set zero s t hs ht h = omega arith
+same-set (suc n) s t hs ht h =
+    let e : s / 2 ≡ t / 2 =
+    same-set n (s / 2) (t / 2) (omega (arith, pow-suc 2 n)) (omega (arith, pow-suc 2 n))
+    (λ p l. sym (bit-suc s p) ∙ h (suc p) (omega arith) ∙ bit-suc t p) in
+    omega (arith, e, bit-zero s, bit-zero t, h 0 (omega arith))
+
+module _ (points : ℕ) (p : Position) (w : OnBoard points p) where
+  -- the set of the board's points that hold v is a side, if its digits say so
+  side : (v s : ℕ) → s < 2 ^ points → ((q : ℕ) → q < points → digit (eqb (valueAt p q) v) ≡ bit s q) → setOf v (boardOf points p) ≡ s
+  side v s l h =
+      same-set points (setOf v (boardOf points p)) s (subst (λ (n : ℕ). setOf v (boardOf points p) < 2 ^ n) (length-board points p) (set-lt v (boardOf points p))) l
+      (λ q m. bit-set v (boardOf points p) q (subst (λ (n : ℕ). q < n) (sym (length-board points p)) m)
+      ∙ ap (λ (x : ℕ). digit (eqb x v)) (board-at points p q m) ∙ h q m)
+
+  pub mover-set : setOf 1 (boardOf points p) ≡ p .mover
+  unfolding valueAt
+  mover-set = side 1 (p .mover) (w .mover-within) (λ q m. said (bit (p .mover) q) (bit (p .opponent) q) (w .apart q m) .mover)
+
+  pub opponent-set : setOf 2 (boardOf points p) ≡ p .opponent
+  unfolding valueAt
+  opponent-set = side 2 (p .opponent) (w .opponent-within) (λ q m. said (bit (p .mover) q) (bit (p .opponent) q) (w .apart q m) .opponent)
+
+  -- a position is that of its board
+  pub position-board : positionOf (boardOf points p) ≡ p
+  unfolding positionOf
+  position-board = rw (mover-set, opponent-set)
+
+  -- and has as many stones
+  pub mover-count : points ≤ 24 → members (p .mover) 32 ≡ count 1 (boardOf points p)
+  mover-count h = ap (λ (s : ℕ). members s 32) (sym mover-set) ∙ members-count 1 (boardOf points p) (omega (arith, length-board points p))
+
+  pub opponent-count : points ≤ 24 → members (p .opponent) 32 ≡ count 2 (boardOf points p)
+  opponent-count h = ap (λ (s : ℕ). members s 32) (sym opponent-set) ∙ members-count 2 (boardOf points p) (omega (arith, length-board points p))

@@ -1,0 +1,77 @@
+-- The two calls undo each other (demand 2): an accepted board is what `unrank` writes for the rank that `rank` answers, and the board that
+-- `unrank` writes has the rank that was asked for. Assumes nothing.
+use mathlib.Core.Path.{_≡_, refl, sym, ap, ap₂, _∙_, subst}
+use mathlib.Core.Bool.{Bool, true, false, not, _||_}
+use mathlib.Core.List.{List, [], _∷_}
+use Prim.Native.Nat.{ℕ, zero, suc, _+_, _*_, _≤_, _<_}
+use native.Mathlib.Omega.{arith}
+use lib.Dec.{eqb, ltb}
+use lib.ListN.{length}
+use borrow.Author.Tests.{le-ltb, eq-eqb, lt-leb}
+use Rattle.board.specs.Board.{Values, count}
+use Rattle.ranking.specs.Size.{size}
+use Rattle.ranking.specs.Rank.{rank}
+use Rattle.ranking.specs.Unrank.{unrank}
+use Rattle.ranking.proofs.Inverse.{BoardOf, rank-unrank, unrank-rank, rank-low}
+use Rattle.morris.specs.Refusals.{table, pickedRows, refusal, boardPicks, rankPicks, ringsWrong, lengthWrong, valueWrong, countsWrong, rankWrong}
+use Rattle.morris.specs.Answers.{Answer, accepted, answer, number, target}
+use Rattle.morris.specs.RankCall.{rankCall}
+use Rattle.morris.specs.UnrankCall.{unrankCall, unrankTarget}
+use Rattle.morris.proofs.FirstRefusal.{passes}
+use Rattle.morris.proofs.Conditions.{Counted, Accepted, accepted-board, AcceptedRank, accepted-rank}
+use Rattle.morris.proofs.Answering.{answer-accepted, target-written}
+
+-- a call that is accepted meets no refusal
+number-none : (r : ℕ) (vs : List ℕ) → number (answer r vs) ≡ 0 → r ≡ 0
+number-none zero vs e = refl
+number-none (suc r) vs e = e
+
+-- right arguments meet no condition
+rings-fine : (rings : ℕ) → 1 ≤ rings → rings ≤ 3 → ringsWrong rings ≡ false
+rings-fine rings l h = rw (le-ltb rings 1 l, le-ltb 3 rings h)
+
+length-fine : (rings n : ℕ) → n ≡ 8 * rings → lengthWrong rings n ≡ false
+length-fine rings n e = ap not (eq-eqb n (8 * rings) e)
+
+values-fine : (b : List ℕ) → Values b → valueWrong b ≡ false
+unfolding valueWrong
+values-fine [] v = refl
+values-fine (x ∷ b) v = rw (le-ltb 2 x (v .0)) (values-fine b (v .1))
+
+counts-fine : (points m o : ℕ) → Counted points m o → countsWrong points m o ≡ false
+counts-fine points m o w =
+    rw (le-ltb m 3 (w .mover-low), le-ltb 9 m (w .mover-high), le-ltb o 3 (w .opponent-low), le-ltb 9 o (w .opponent-high), le-ltb points (m + o) (w .stones-fit))
+
+-- from a board to its rank and back, into any target of the right length
+pub rank-then-unrank : (rings : ℕ) (b old : List ℕ) → number (rankCall rings b) ≡ 0 → length old ≡ 8 * rings
+    → (unrankCall rings (count 1 b) (count 2 b) (rank b) old ≡ accepted []) × (unrankTarget rings (count 1 b) (count 2 b) (rank b) old ≡ b)
+unfolding rankCall unrankCall unrankTarget
+rank-then-unrank rings b old e l =
+    let w = accepted-board rings b (number-none (refusal (boardPicks rings b)) (rank b ∷ []) e) in
+    let m = count 1 b in
+    let o = count 2 b in
+    let low : rank b < size (8 * rings) m o = subst (λ (n : ℕ). rank b < size n m o) (w .points) (rank-low b (w .values)) in
+    let z : 0 ≡ refusal (rankPicks rings m o (rank b) (length old)) =
+    passes (pickedRows table (rankPicks rings m o (rank b) (length old)))
+    (rings-fine rings (w .rings-low) (w .rings-high),
+    (counts-fine (8 * rings) m o (w .counted), (length-fine rings (length old) l, (lt-leb (size (8 * rings) m o) (rank b) low, tt)))) in
+    let u : unrank (8 * rings) m o (rank b) ≡ b = ap (λ (n : ℕ). unrank n m o (rank b)) (sym (w .points)) ∙ unrank-rank b (w .values) in
+    (sym (answer-accepted _ [] z), sym (target-written _ (unrank (8 * rings) m o (rank b)) old z) ∙ u)
+
+-- from a rank to its board and back
+pub unrank-then-rank : (rings m o r : ℕ) (old : List ℕ) → number (unrankCall rings m o r old) ≡ 0
+    → rankCall rings (unrankTarget rings m o r old) ≡ accepted (r ∷ [])
+unfolding rankCall unrankCall unrankTarget
+unrank-then-rank rings m o r old e =
+    let n = number-none (refusal (rankPicks rings m o r (length old))) [] e in
+    let w = accepted-rank rings m o r (length old) n in
+    let u = rank-unrank (8 * rings) m o r (w .rank-low) in
+    let b = unrank (8 * rings) m o r in
+    let z : 0 ≡ refusal (boardPicks rings b) =
+    passes (pickedRows table (boardPicks rings b))
+    (rings-fine rings (w .rings-low) (w .rings-high),
+    (length-fine rings (length b) (u .points),
+    (values-fine b (u .values), (rw (u .mover, u .opponent) (counts-fine (8 * rings) m o (w .counted)), tt)))) in
+    let t : target (refusal (rankPicks rings m o r (length old))) b old ≡ b = sym (target-written _ b old (sym n)) in
+    ap (λ (c : List ℕ). answer (refusal (boardPicks rings c)) (rank c ∷ [])) t
+    ∙ sym (answer-accepted _ (rank b ∷ []) z) ∙ ap (λ (k : ℕ). accepted (k ∷ [])) (u .rank-is)
