@@ -9,7 +9,7 @@ use lib.ListN.{length, getD, drop}
 use lib.Seq.{drop-cons}
 use borrow.Author.Tests.{ltb-false, leb-false, eqb-true, not-false}
 use Rattle.board.specs.Board.{Values, count}
-use Rattle.ranking.specs.Size.{size}
+use Rattle.sizes.specs.Size.{size}
 use Rattle.morris.specs.Refusals.{table, pickedRows, refusal, boardPicks, rankPicks, ringsWrong, lengthWrong, valueWrong, countsWrong}
 use Rattle.morris.proofs.FirstRefusal.{passed}
 

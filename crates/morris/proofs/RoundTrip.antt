@@ -9,7 +9,7 @@ use lib.Dec.{eqb, ltb}
 use lib.ListN.{length}
 use borrow.Author.Tests.{le-ltb, eq-eqb, lt-leb}
 use Rattle.board.specs.Board.{Values, count}
-use Rattle.ranking.specs.Size.{size}
+use Rattle.sizes.specs.Size.{size}
 use Rattle.ranking.specs.Rank.{rank}
 use Rattle.ranking.specs.Unrank.{unrank}
 use Rattle.ranking.proofs.Inverse.{BoardOf, rank-unrank, unrank-rank, rank-low}
@@ -52,9 +52,10 @@ rank-then-unrank rings b old e l =
     let o = count 2 b in
     let low : rank b < size (8 * rings) m o = subst (λ (n : ℕ). rank b < size n m o) (w .points) (rank-low b (w .values)) in
     let z : 0 ≡ refusal (rankPicks rings m o (rank b) (length old)) =
-    passes (pickedRows table (rankPicks rings m o (rank b) (length old)))
-    (rings-fine rings (w .rings-low) (w .rings-high),
-    (counts-fine (8 * rings) m o (w .counted), (length-fine rings (length old) l, (lt-leb (size (8 * rings) m o) (rank b) low, tt)))) in
+    passes (pickedRows table (rankPicks rings m o (rank b) (length old))) (
+      rings-fine rings (w .rings-low) (w .rings-high),
+      (counts-fine (8 * rings) m o (w .counted), (length-fine rings (length old) l, (lt-leb (size (8 * rings) m o) (rank b) low, tt))),
+    ) in
     let u : unrank (8 * rings) m o (rank b) ≡ b = ap (λ (n : ℕ). unrank n m o (rank b)) (sym (w .points)) ∙ unrank-rank b (w .values) in
     (sym (answer-accepted _ [] z), sym (target-written _ (unrank (8 * rings) m o (rank b)) old z) ∙ u)
 
@@ -68,10 +69,13 @@ unrank-then-rank rings m o r old e =
     let u = rank-unrank (8 * rings) m o r (w .rank-low) in
     let b = unrank (8 * rings) m o r in
     let z : 0 ≡ refusal (boardPicks rings b) =
-    passes (pickedRows table (boardPicks rings b))
-    (rings-fine rings (w .rings-low) (w .rings-high),
-    (length-fine rings (length b) (u .points),
-    (values-fine b (u .values), (rw (u .mover, u .opponent) (counts-fine (8 * rings) m o (w .counted)), tt)))) in
+    passes (pickedRows table (boardPicks rings b)) (
+      rings-fine rings (w .rings-low) (w .rings-high),
+      (
+        length-fine rings (length b) (u .points),
+        (values-fine b (u .values), (rw (u .mover, u .opponent) (counts-fine (8 * rings) m o (w .counted)), tt)),
+      ),
+    ) in
     let t : target (refusal (rankPicks rings m o r (length old))) b old ≡ b = sym (target-written _ b old (sym n)) in
     ap (λ (c : List ℕ). answer (refusal (boardPicks rings c)) (rank c ∷ [])) t
     ∙ sym (answer-accepted _ (rank b ∷ []) z) ∙ ap (λ (k : ℕ). accepted (k ∷ [])) (u .rank-is)

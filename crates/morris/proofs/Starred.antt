@@ -2,9 +2,9 @@
 use mathlib.Core.Path.{_≡_, refl}
 use mathlib.Core.Bool.{true}
 use Rattle.board.specs.Lists.{all}
-use Rattle.ranking.specs.Size.{size}
+use Rattle.sizes.specs.Size.{size}
 use Rattle.ranking.specs.Rank.{readingRank, rank}
-use Rattle.ranking.specs.Layout.{tables, tablebaseLength}
+use Rattle.layout.specs.Layout.{tables, tablebaseLength}
 use Rattle.morris.specs.Refusals.{valueWrong}
 use Rattle.morris.specs.RankCall.{rankCall}
 use Rattle.morris.specs.Cases.{holds, starred}

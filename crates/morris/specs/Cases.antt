@@ -3,8 +3,8 @@ use mathlib.Core.Bool.{Bool, _&&_}
 use mathlib.Core.List.{List, [], _∷_, reverse}
 use Prim.Native.Nat.{ℕ, _*_}
 use lib.Dec.{eqb}
-use Rattle.ranking.specs.Size.{size}
-use Rattle.ranking.specs.Layout.{tablebaseLength}
+use Rattle.sizes.specs.Size.{size}
+use Rattle.layout.specs.Layout.{tablebaseLength}
 use Rattle.morris.specs.Refusals.{refusal, rankPicks}
 use Rattle.morris.specs.Answers.{number, value}
 use Rattle.morris.specs.RankCall.{rankCall}

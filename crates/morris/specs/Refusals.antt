@@ -6,7 +6,7 @@ use Prim.Native.Nat.{ℕ, _+_, _*_}
 use lib.Dec.{eqb, leb, ltb}
 use lib.ListN.{length}
 use Rattle.board.specs.Board.{count}
-use Rattle.ranking.specs.Size.{size}
+use Rattle.sizes.specs.Size.{size}
 
 -- the conditions, by what is wrong
 pub data Condition : Type 0 where

@@ -22,7 +22,7 @@ pub fn rank(rings: u8, board: &[u8]) -> Ranked
     if refusal != 0 {
         return Ranked::Refused(refusal);
     }
-    let binomials = ranking::binomial_table();
+    let binomials = sizes::binomial_table();
     let position = board::position_of(board);
     Ranked::Rank(ranking::rank(&binomials, board.len(), position) as u64)
 }
@@ -38,7 +38,7 @@ pub fn unrank(rings: u8, mover: u8, opponent: u8, rank: u64, target: &mut [u8]) 
     ensures answer { λ r. ⌜ unranked r ≡ unrankCall rings mover opponent rank (now (target .entry)) ⌝ }
     ensures target { λ _. ⌜ now (target .exit) ≡ unrankTarget rings mover opponent rank (now (target .entry)) ⌝ }
 {
-    let binomials = ranking::binomial_table();
+    let binomials = sizes::binomial_table();
     let refusal = refusals::of_rank(&binomials, rings, mover, opponent, rank, target.len());
     if refusal != 0 {
         return Unranked::Refused(refusal);

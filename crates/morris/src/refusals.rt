@@ -4,7 +4,7 @@ ghost use Prim.Native.Nat.{_≤_};
 ghost use lib.ListN.{length};
 ghost use Rattle.board.specs.Board.{count};
 ghost use Rattle.morris.specs.Refusals.{ringsWrong, valueWrong, countsWrong, refusal, boardPicks, rankPicks};
-ghost use Rattle.ranking.specs.Binomial.{BinomialTable};
+ghost use Rattle.sizes.specs.Binomial.{BinomialTable};
 
 // The refusal numbers of document 01.
 const RINGS: u8 = 1;
@@ -100,7 +100,7 @@ pub fn of_rank(
     if room != points {
         return TARGET_LENGTH;
     }
-    let size = ranking::size(binomials, points, mover as usize, opponent as usize);
+    let size = sizes::size(binomials, points, mover as usize, opponent as usize);
     if size as u64 <= rank {
         return RANK;
     }

@@ -9,11 +9,11 @@ use lib.Dec.{eqb, ltb}
 use lib.ListN.{length, length-reverse}
 use borrow.Author.Tests.{ltb-true, ltb-false, lt-ltb, le-ltb}
 use Rattle.board.specs.Board.{Values, more, count, digit}
-use Rattle.ranking.specs.Size.{size}
+use Rattle.sizes.specs.Size.{size, sizeWithOne, sizeWithTwo}
 use Rattle.ranking.specs.Rank.{readingRank, rank}
-use Rattle.ranking.specs.Unrank.{sizeWithOne, below, topValue, readingOf, unrank}
+use Rattle.ranking.specs.Unrank.{below, topValue, readingOf, unrank}
 use Rattle.ranking.proofs.Counts.{count-reverse, values-reverse}
-use Rattle.ranking.proofs.Multinomials.{sizeWithTwo, size-more, size-none, size-over}
+use Rattle.sizes.proofs.Multinomials.{size-more, size-none, size-over}
 use Rattle.ranking.proofs.Reading.{rank-nil, rank-cons, rank-lt}
 
 -- the value at the highest point, by the tests

@@ -1,9 +1,4 @@
-pub mod Binomials
-pub mod Multinomials
 pub mod Counts
 pub mod Reading
 pub mod Inverse
 pub mod Steps
-pub mod Parts
-pub mod Places
-pub mod OneToOne

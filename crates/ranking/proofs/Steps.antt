@@ -1,20 +1,18 @@
 -- How many boards have a lower value at the highest point, and the steps of ranking and unranking a board point by point. Assumes nothing.
 use mathlib.Core.Path.{_≡_, refl, sym, ap, ap₂, _∙_, subst}
-use mathlib.Core.Bool.{Bool, true, false}
 use mathlib.Core.List.{List, [], _∷_, _++_, reverse, reverse-cons, reverse-append}
 use Prim.Native.Nat.{ℕ, zero, suc, _+_, _-_, _*_, _^_, _≤_, _<_}
 use native.Mathlib.Omega.{arith}
-use lib.Dec.{eqb, leb}
-use borrow.Author.Tests.{leb-true, leb-false}
+use lib.Dec.{eqb}
 use lib.ListN.{length, getD, take, drop, length-reverse, drop-of-length-le}
 use lib.Seq.{take-suc, take-all, take-take, take-at, getD-at, getD-take, length-take-le}
 use native.Mathlib.Numerals.{add-one}
 use Rattle.board.specs.Board.{Values, count, digit, setOf}
 use Rattle.board.proofs.Sides.{value-le, set-step}
-use Rattle.ranking.specs.Size.{size}
+use Rattle.sizes.specs.Size.{size, sizeWithOne}
 use Rattle.ranking.specs.Rank.{readingRank, rank}
-use Rattle.ranking.specs.Unrank.{sizeWithOne, below, topValue, readingOf, unrank}
-use Rattle.ranking.proofs.Multinomials.{size-small, size-over}
+use Rattle.ranking.specs.Unrank.{below, topValue, readingOf, unrank}
+use Rattle.sizes.proofs.Multinomials.{size-small}
 use Rattle.ranking.proofs.Counts.{count-reverse, count-more, count-le, values-take}
 use Rattle.ranking.proofs.Reading.{rank-nil, rank-cons}
 use Rattle.ranking.proofs.Inverse.{reading-cons, Rest, rest}
@@ -165,11 +163,3 @@ unranking-more {b} {i} {m} {o} {r} {first} {second} x w p e =
       mover = omega (arith, w .mover, set-step 1 i b p (w .within), ap (λ (y : ℕ). digit (eqb y 1)) a);
       opponent = omega (arith, w .opponent, set-step 2 i b p (w .within), ap (λ (y : ℕ). digit (eqb y 2)) a);
     }
-
--- a table that has a rank has few stones
-pub stones-few : (n m o r : ℕ) → r < size n m o → m + o ≤ n
-stones-few n m o r h = go (leb (m + o) n) refl
-  where
-    go : (b : Bool) → leb (m + o) n ≡ b → m + o ≤ n
-    go true e = leb-true (m + o) n e
-    go false e = absurd (omega (arith, size-over n m o (leb-false (m + o) n e)))

@@ -5,14 +5,9 @@ use mathlib.Core.List.{List, [], _∷_, reverse}
 use Prim.Native.Nat.{ℕ, zero, suc, _+_, _-_}
 use lib.Dec.{eqb, ltb}
 use Rattle.board.specs.Board.{digit}
-use Rattle.ranking.specs.Size.{size}
+use Rattle.sizes.specs.Size.{size, sizeWithOne}
 
--- n + 1 points hold m and o stones: how many boards have a 1 at the highest point
-abbrev pub sizeWithOne : ℕ → ℕ → ℕ → ℕ
-sizeWithOne n zero o = 0
-sizeWithOne n (suc m) o = size n m o
-
--- how many have a lower value than x there
+-- n + 1 points hold m and o stones: how many boards have a lower value than x at the highest point
 abbrev pub below : ℕ → ℕ → ℕ → ℕ → ℕ
 below zero n m o = 0
 below (suc zero) n m o = size n m o

@@ -21,7 +21,7 @@ use Rattle.morris.proofs.rank.Lts as lts
 use Rattle.board.proofs.position_of.Reads as position-of-reads
 use Rattle.morris.proofs.refusals.of_board.Reads as of-board-reads
 use Rattle.ranking.proofs.rank.Reads as rank-reads
-use Rattle.ranking.proofs.binomial_table.Reads as binomial-table-reads
+use Rattle.sizes.proofs.binomial_table.Reads as binomial-table-reads
 
 -- past the refusals, the board is accepted
 board-accepted : (c : tie.Else1) → Accepted (c .before .before .before .args .rings) (c .before .before .before .args .board .now)

@@ -8,8 +8,8 @@ use borrow.Author.Needs.{needs}
 use Rattle.board.specs.Board.{boardOf, positionOf}
 use Rattle.board.specs.declared.position.Position.{Position}
 use Rattle.board.proofs.Sides.{board-position}
-use Rattle.ranking.specs.Binomial.{BinomialTable}
-use Rattle.ranking.specs.Size.{size}
+use Rattle.sizes.specs.Binomial.{BinomialTable}
+use Rattle.sizes.specs.Size.{size}
 use Rattle.ranking.specs.Unrank.{unrank as Unrank·unrank}
 use Rattle.ranking.proofs.Inverse.{BoardOf, rank-unrank}
 use Rattle.morris.specs.Refusals.{refusal, rankPicks}
@@ -23,7 +23,7 @@ use Rattle.morris.proofs.unrank.Lts as lts
 use Rattle.board.proofs.write_board.Reads as write-board-reads
 use Rattle.morris.proofs.refusals.of_rank.Reads as of-rank-reads
 use Rattle.ranking.proofs.unrank.Reads as unrank-reads
-use Rattle.ranking.proofs.binomial_table.Reads as binomial-table-reads
+use Rattle.sizes.proofs.binomial_table.Reads as binomial-table-reads
 
 -- past the refusals, counts, rank and target are accepted
 rank-accepted : (c : tie.Else1)

@@ -7,8 +7,8 @@ use native.Mathlib.Omega.{arith}
 use lib.Dec.{eqb}
 use borrow.Author.Tests.{eq-eqb, ne-eqb, le-leb, lt-leb}
 use borrow.Author.Needs.{needs}
-use Rattle.ranking.specs.Binomial.{BinomialTable}
-use Rattle.ranking.specs.Size.{size}
+use Rattle.sizes.specs.Binomial.{BinomialTable}
+use Rattle.sizes.specs.Size.{size}
 use Rattle.morris.specs.Refusals.{Picked, table, pickedRows, rankPicks, ringsWrong, lengthWrong, countsWrong, rankWrong}
 use Rattle.morris.proofs.FirstRefusal.{meets, passes}
 use Rattle.morris.proofs.Conditions.{rings-right, counts-right}
@@ -18,7 +18,7 @@ use Rattle.morris.proofs.refusals.of_rank.Reads as reads
 use Rattle.morris.proofs.refusals.of_rank.Lts as lts
 use Rattle.morris.proofs.refusals.counts_wrong.Reads as counts-wrong-reads
 use Rattle.morris.proofs.refusals.rings_wrong.Reads as rings-wrong-reads
-use Rattle.ranking.proofs.size.Reads as size-reads
+use Rattle.sizes.proofs.size.Reads as size-reads
 
 -- the rows that the call picks
 rows : (s : tie.Start) → List Picked
