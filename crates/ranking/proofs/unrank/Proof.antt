@@ -9,8 +9,9 @@ use lib.ListN.{length, drop}
 use Rattle.board.specs.Board.{digit, setOf, positionOf}
 use Rattle.board.proofs.Sides.{digit-lt, set-small}
 use Rattle.ranking.specs.Unrank.{below, unrank as Unrank·unrank}
+use Rattle.sizes.proofs.Multinomials.{stones-few}
 use Rattle.ranking.proofs.Inverse.{Rest}
-use Rattle.ranking.proofs.Steps.{Unranking, unranking-none, unranking-more, rest-at, length-unrank, stones-few}
+use Rattle.ranking.proofs.Steps.{Unranking, unranking-none, unranking-more, rest-at, length-unrank}
 use Rattle.ranking.proofs.unrank.Statement.{statement}
 use Rattle.ranking.proofs.unrank.Tie as tie
 use Rattle.ranking.proofs.unrank.Reads as reads
