@@ -1,4 +1,5 @@
 pub mod Lists
+pub mod Members
 pub mod Table
 pub mod Geometry
 pub mod Sides

@@ -1,5 +1,5 @@
 -- A board's two sides as sets: what each point's digit says, the count, the bound, and the way back to the board. Assumes nothing.
-use mathlib.Core.Path.{_≡_, refl, sym, ap, ap₂, _∙_, subst}
+use mathlib.Core.Path.{_≡_, refl, ap, ap₂, _∙_, subst}
 use mathlib.Core.Bool.{Bool, true, false}
 use mathlib.Core.List.{List, [], _∷_}
 use Prim.Native.Nat.{ℕ, zero, suc, _+_, _-_, _*_, _/_, _%_, _^_, _≤_, _<_}
@@ -11,7 +11,7 @@ use lib.Count.{ones, ones-step}
 use lib.Pow.{pow-mono}
 use lib.ListN.{length, getD, drop, length-drop}
 use lib.Seq.{drop-cons, ext-getD}
-use Rattle.sets.specs.Sets.{bit, has, members}
+use Rattle.sets.specs.Sets.{bit, members}
 use Rattle.sets.proofs.Laws.{bit-zero, bit-suc, members-all}
 use Rattle.board.specs.declared.position.Position.{Position}
 use Rattle.board.specs.Board.{Values, more, count, digit, setOf, positionOf, valueAt, values, boardOf, OnBoard}

@@ -1,12 +1,13 @@
 -- A rule of a whole table, from one computed test: the prover lists the rule's values and compares them with the table, or tries a test at
 -- each number below the table's length. Assumes nothing.
-use mathlib.Core.Path.{_≡_, refl, ap, subst, _∙_, sym}
+use mathlib.Core.Path.{_≡_, refl, ap, ap₂, subst, subst⁻¹, _∙_, sym}
 use mathlib.Core.Bool.{Bool, true, false, false≢true}
 use mathlib.Core.Logic.{⊎-elim}
-use mathlib.Core.List.{List, [], _∷_}
-use Prim.Native.Nat.{ℕ, zero, suc, _+_, _≤_, _<_}
-use native.Mathlib.Nat.{add-zero, zero-add, add-suc, suc-add, le-of-suc-le-suc, not-suc-le-zero, eq-or-lt-of-le}
+use mathlib.Core.List.{List}
+use Prim.Native.Nat.{ℕ, zero, suc, _+_, _*_, _/_, _%_, _≤_, _<_}
+use native.Mathlib.Nat.{add-zero, zero-add, add-suc, suc-add, le-of-suc-le-suc, not-suc-le-zero, eq-or-lt-of-le, mul-comm}
 use native.Mathlib.Omega.{arith}
+use lib.Arith.{digits-lt, digits-div, digits-mod}
 use lib.ListN.{getD, length, set}
 use lib.Seq.{getD-set-same, getD-set-other}
 use borrow.Author.Count.{below-more}
@@ -21,6 +22,14 @@ from f (suc n) i (suc k) h = from f n (suc i) k (le-of-suc-le-suc h) ∙ ap f (s
 -- where a table computes to the values of f, its entry at k is f k
 pub rule : (f : ℕ → ℕ) (n k : ℕ) → k < n → getD (values f 0 n) k 0 ≡ f k
 rule f n k h = from f n 0 k h ∙ ap f (zero-add k)
+
+-- the same for rows of w entries: entry j of row p is f p j
+pub rule-rows : (f : ℕ → ℕ → ℕ) (w n p j : ℕ) → p < n → j < w → getD (values (λ k. f (k / w) (k % w)) 0 (w * n)) (w * p + j) 0 ≡ f p j
+rule-rows f w n p j h l =
+    let e : w * p + j ≡ p * w + j = ap (λ (k : ℕ). k + j) (mul-comm w p) in
+    let low : w * p + j < w * n = subst⁻¹ (λ (k : ℕ). k < w * n) e (subst (λ (k : ℕ). p * w + j < k) (mul-comm n w) (digits-lt h l)) in
+    rule (λ k. f (k / w) (k % w)) (w * n) (w * p + j) low
+    ∙ ap₂ f (ap (λ (k : ℕ). k / w) e ∙ digits-div p l) (ap (λ (k : ℕ). k % w) e ∙ digits-mod p l)
 
 pub length-values : (f : ℕ → ℕ) (n i : ℕ) → length (values f i n) ≡ n
 length-values f zero i = refl

@@ -1,15 +1,18 @@
 -- Places of a tablebase and positions are one-to-one: each place below the length is a place of one table at one rank, and of no other;
 -- tables do not overlap. Assumes nothing.
-use mathlib.Core.Path.{_≡_, refl, sym, ap, _∙_, subst}
+use mathlib.Core.Path.{_≡_, refl, sym, ap, subst}
 use mathlib.Core.Bool.{Bool, true, false, _||_, _&&_, or-true, false≢true}
-use Prim.Native.Nat.{ℕ, suc, _+_, _-_, _≤_, _<_}
+use mathlib.Core.List.{List·Memᴰ}
+use Prim.Native.Nat.{ℕ, _+_, _-_, _≤_, _<_}
 use native.Mathlib.Omega.{arith}
-use lib.Dec.{eqb, ltb}
-use borrow.Author.Tests.{ltb-true, ltb-false, eqb-true, eq-eqb}
+use lib.Dec.{eqb, leb, ltb}
+use borrow.Author.Tests.{ltb-true, ltb-false, leb-true, le-leb, eqb-true, eq-eqb}
+use Rattle.board.specs.Lists.{each}
+use Rattle.board.proofs.Members.{keep-member, member-keep, each-member, member-each, map-member, member-map, range-member, member-range}
 use Rattle.sizes.specs.Size.{size}
-use Rattle.layout.specs.Layout.{table, stones, row, entries, earlier, start, end, tablebaseLength}
+use Rattle.layout.specs.Layout.{Table, table, stones, row, tables, entries, earlier, start, end, tablebaseLength}
 use Rattle.sizes.proofs.Multinomials.{stones-few}
-use Rattle.layout.proofs.Parts.{Place, part-before, part-unique, part-of}
+use Rattle.layout.proofs.Parts.{part-before, part-of}
 use Rattle.layout.proofs.Places.{rowPart, rowsPart, row-more, rows-more, start-is, length-is}
 
 -- (m, o) is a table of largest count k
@@ -19,6 +22,33 @@ pub record IsTable (points k m o : ℕ) : Type 0 where
   pub opponent-low : 3 ≤ o
   pub opponent-high : o ≤ k
   pub stones-fit : m + o ≤ points
+
+-- those are the tables that are listed
+pub table-listed : (points k m o : ℕ) → IsTable points k m o → List·Memᴰ (table m o) (tables points k)
+unfolding tables
+table-listed points k m o w =
+    member-keep (λ t. leb (t .mover + t .opponent) points) (each (λ x. row k x) (stones k))
+    (member-each (λ x. row k x) (stones k) m (member-range (k - 2) 3 m (w .mover-low) (omega (arith, w .mover-low, w .mover-high)))
+    (member-map (λ x. table m x) (stones k) (member-range (k - 2) 3 o (w .opponent-low) (omega (arith, w .opponent-low, w .opponent-high)))))
+    (le-leb (m + o) points (w .stones-fit))
+
+pub listed-table : (points k m o : ℕ) → List·Memᴰ (table m o) (tables points k) → IsTable points k m o
+unfolding tables
+listed-table points k m o d =
+    let a = keep-member (λ t. leb (t .mover + t .opponent) points) (each (λ x. row k x) (stones k)) d in
+    let b = each-member (λ x. row k x) (stones k) (a .0) in
+    let c = map-member (λ x. table (b .0) x) (stones k) (b .2) in
+    let p = range-member (k - 2) 3 (b .1) in
+    let q = range-member (k - 2) 3 (c .1) in
+    let e : m ≡ b .0 = ap (λ (t : Table). t .mover) (c .2) in
+    let f : o ≡ c .0 = ap (λ (t : Table). t .opponent) (c .2) in
+    record {
+      mover-low = omega (arith, p);
+      mover-high = omega (arith, p);
+      opponent-low = omega (arith, q);
+      opponent-high = omega (arith, q);
+      stones-fit = leb-true (m + o) points (a .1);
+    }
 
 -- place x is that of rank r in table (m, o)
 pub record PlaceOf (points k m o r x : ℕ) : Type 0 where

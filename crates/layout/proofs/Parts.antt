@@ -1,4 +1,4 @@
--- Parts one after the other: E i is where part i starts and f i is how long it is. A place lies in one part, and in one only. Assumes nothing.
+-- Parts one after the other: E i is where part i starts and f i is how long it is. Each place lies in one of them. Assumes nothing.
 use mathlib.Core.Path.{_≡_, refl}
 use mathlib.Core.Bool.{Bool, true, false}
 use Prim.Native.Nat.{ℕ, zero, suc, _+_, _-_, _≤_, _<_}
@@ -22,14 +22,6 @@ module _ (E f : ℕ → ℕ) (none : E 0 ≡ 0) (more : (n : ℕ) → E (suc n) 
   -- a part ends before any later part starts
   pub part-before : {a b : ℕ} → a < b → E a + f a ≤ E b
   part-before {a} {b} h = omega (arith, more a, starts-rise {a = suc a} {b = b} h)
-
-  pub part-unique : (a b r s : ℕ) → r < f a → s < f b → E a + r ≡ E b + s → a ≡ b
-  part-unique a b r s hr hs e = go (ltb a b) refl (ltb b a) refl
-    where
-      go : (p : Bool) → ltb a b ≡ p → (q : Bool) → ltb b a ≡ q → a ≡ b
-      go true p q′ q = absurd (omega (arith, part-before (ltb-true a b p)))
-      go false p true q = absurd (omega (arith, part-before (ltb-true b a q)))
-      go false p false q = omega (arith, ltb-false a b p, ltb-false b a q)
 
   pub part-of : (n x : ℕ) → x < E n → Place E f n x
   part-of zero x h = absurd (omega arith)

@@ -1,17 +1,17 @@
 -- Where the tables of a tablebase lie: one after the other, in the rows of rising m. Each place is a place of one table, and of one only.
 -- Assumes nothing.
-use mathlib.Core.Path.{_≡_, refl, sym, ap, ap₂, _∙_, subst}
-use mathlib.Core.Bool.{Bool, true, false, _&&_, _||_, or-true}
+use mathlib.Core.Path.{_≡_, refl, sym, ap, ap₂, _∙_}
+use mathlib.Core.Bool.{Bool, true, false}
 use mathlib.Core.List.{List, [], _∷_, _++_, map, map-append, append-nil, append-assoc}
 use Prim.Native.Nat.{ℕ, zero, suc, _+_, _-_, _≤_, _<_}
 use native.Mathlib.Nat.{add-zero, zero-add, add-suc, suc-add}
 use native.Mathlib.Omega.{arith}
-use lib.Dec.{eqb, leb, ltb}
+use lib.Dec.{leb, ltb}
 use borrow.Author.Tests.{leb-false, lt-ltb, le-ltb, eq-eqb, ne-eqb}
 use Rattle.board.specs.Lists.{range, keep, each}
 use Rattle.board.proofs.Lists.{keep-yes, keep-no}
 use Rattle.sizes.specs.Size.{size}
-use Rattle.layout.specs.Layout.{Table, table, stones, row, tables, entries, earlier, start, end, tablebaseLength}
+use Rattle.layout.specs.Layout.{Table, table, stones, row, tables, entries, earlier, start, tablebaseLength}
 use Rattle.sizes.proofs.Multinomials.{size-over}
 
 -- lists of numbers and of tables, in two parts

@@ -1,8 +1,8 @@
 -- An answer and a target at exit, by whether the call was turned back. Assumes nothing.
-use mathlib.Core.Path.{_≡_, refl, sym, ap, _∙_}
+use mathlib.Core.Path.{_≡_, refl, ap}
 use mathlib.Core.List.{List}
 use Prim.Native.Nat.{ℕ, zero, suc}
-use Rattle.morris.specs.Answers.{Answer, accepted, refused, answer, target}
+use Rattle.morris.specs.Answers.{accepted, refused, answer, target}
 
 -- turned back: n is the refusal r that the call meets
 pub answer-refused : (n r : ℕ) (vs : List ℕ) → (n ≡ 0 → ⊥) → n ≡ r → refused n ≡ answer r vs

@@ -1,24 +1,22 @@
 -- The two calls undo each other (demand 2): an accepted board is what `unrank` writes for the rank that `rank` answers, and the board that
 -- `unrank` writes has the rank that was asked for. Assumes nothing.
-use mathlib.Core.Path.{_≡_, refl, sym, ap, ap₂, _∙_, subst}
-use mathlib.Core.Bool.{Bool, true, false, not, _||_}
+use mathlib.Core.Path.{_≡_, refl, sym, ap, _∙_, subst}
+use mathlib.Core.Bool.{false, not}
 use mathlib.Core.List.{List, [], _∷_}
 use Prim.Native.Nat.{ℕ, zero, suc, _+_, _*_, _≤_, _<_}
-use native.Mathlib.Omega.{arith}
-use lib.Dec.{eqb, ltb}
 use lib.ListN.{length}
 use borrow.Author.Tests.{le-ltb, eq-eqb, lt-leb}
 use Rattle.board.specs.Board.{Values, count}
 use Rattle.sizes.specs.Size.{size}
 use Rattle.ranking.specs.Rank.{rank}
 use Rattle.ranking.specs.Unrank.{unrank}
-use Rattle.ranking.proofs.Inverse.{BoardOf, rank-unrank, unrank-rank, rank-low}
-use Rattle.morris.specs.Refusals.{table, pickedRows, refusal, boardPicks, rankPicks, ringsWrong, lengthWrong, valueWrong, countsWrong, rankWrong}
-use Rattle.morris.specs.Answers.{Answer, accepted, answer, number, target}
+use Rattle.ranking.proofs.Inverse.{rank-unrank, unrank-rank, rank-low}
+use Rattle.morris.specs.Refusals.{table, pickedRows, refusal, boardPicks, rankPicks, ringsWrong, lengthWrong, valueWrong, countsWrong}
+use Rattle.morris.specs.Answers.{accepted, answer, number, target}
 use Rattle.morris.specs.RankCall.{rankCall}
 use Rattle.morris.specs.UnrankCall.{unrankCall, unrankTarget}
 use Rattle.morris.proofs.FirstRefusal.{passes}
-use Rattle.morris.proofs.Conditions.{Counted, Accepted, accepted-board, AcceptedRank, accepted-rank}
+use Rattle.morris.proofs.Conditions.{Counted, accepted-board, accepted-rank}
 use Rattle.morris.proofs.Answering.{answer-accepted, target-written}
 
 -- a call that is accepted meets no refusal

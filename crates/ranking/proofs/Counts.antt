@@ -1,12 +1,11 @@
 -- Counts and values of a board are those of its reading, and of its parts together. Assumes nothing.
-use mathlib.Core.Path.{_≡_, refl, sym, ap, _∙_}
-use mathlib.Core.Bool.{Bool}
+use mathlib.Core.Path.{_≡_, refl, ap, _∙_}
 use mathlib.Core.List.{List, [], _∷_, _++_, reverse, reverse-cons}
 use Prim.Native.Nat.{ℕ, zero, suc, _+_, _≤_}
 use native.Mathlib.Omega.{arith}
 use lib.Dec.{eqb}
 use lib.ListN.{length, take}
-use Rattle.board.specs.Board.{Values, more, count, digit}
+use Rattle.board.specs.Board.{Values, count, digit}
 use Rattle.board.proofs.Sides.{more-digit, digit-lt}
 
 pub count-append : (v : ℕ) (a b : List ℕ) → count v (a ++ b) ≡ count v a + count v b

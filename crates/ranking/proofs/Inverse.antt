@@ -9,7 +9,7 @@ use lib.Dec.{eqb, ltb}
 use lib.ListN.{length, length-reverse}
 use borrow.Author.Tests.{ltb-true, ltb-false, lt-ltb, le-ltb}
 use Rattle.board.specs.Board.{Values, more, count, digit}
-use Rattle.sizes.specs.Size.{size, sizeWithOne, sizeWithTwo}
+use Rattle.sizes.specs.Size.{size, sizeWithOne}
 use Rattle.ranking.specs.Rank.{readingRank, rank}
 use Rattle.ranking.specs.Unrank.{below, topValue, readingOf, unrank}
 use Rattle.ranking.proofs.Counts.{count-reverse, values-reverse}

@@ -1,6 +1,6 @@
 -- The rank of a board (document 01, "Ranks and shelves": "Read the board from its highest point down. Order boards of equal counts by the
 -- first difference, with vacant below 1 below 2. The rank is how many come before."). Assumes nothing.
-use mathlib.Core.Bool.{Bool, true, false, _&&_, _||_}
+use mathlib.Core.Bool.{Bool, false, _&&_, _||_}
 use mathlib.Core.List.{List, [], _∷_, reverse}
 use Prim.Native.Nat.{ℕ, zero, suc, _+_}
 use lib.Dec.{eqb, ltb}

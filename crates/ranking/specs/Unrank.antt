@@ -1,6 +1,6 @@
 -- The board of a rank. That its rank is the given one, and that no other board of its counts has that rank, is proved in proofs/Inverse.
 -- Assumes nothing.
-use mathlib.Core.Bool.{Bool, true, false}
+use mathlib.Core.Bool.{true, false}
 use mathlib.Core.List.{List, [], _∷_, reverse}
 use Prim.Native.Nat.{ℕ, zero, suc, _+_, _-_}
 use lib.Dec.{eqb, ltb}

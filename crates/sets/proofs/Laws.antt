@@ -4,15 +4,15 @@ use mathlib.Core.Path.{_≡_, refl, sym, ap, ap₂, _∙_, subst}
 use mathlib.Core.Logic.{_⊎_, inl, inr, ⊎-elim}
 use Prim.Native.Nat.{ℕ, zero, suc, _+_, _-_, _*_, _/_, _%_, _^_, _≤_, _<_, min}
 use native.Mathlib.Nat.{pow-suc, mod-lt, zero-mul, one-mul, mod-eq-of-lt, mod-one, zero-div}
-use native.Mathlib.Numerals.{add-one, one-add}
+use native.Mathlib.Numerals.{one-add}
 use native.Mathlib.Omega.{arith}
-use mathlib.Core.Bool.{Bool, false, _&&_}
+use mathlib.Core.Bool.{false, _&&_}
 use lib.Dec.{eqb}
 use lib.Bits.{bitAnd, bitOr, and-step, or-add-and, or-lt, and-high, and-zero-r}
 use lib.Count.{ones, ones-step, ones-cat}
 use lib.Arith.{digits-div, digits-mod}
 use lib.Pow.{shr-shr, mod-pow-add, pow-lt, pow-pos}
-use Rattle.sets.specs.Sets.{bit, with, without, members, has, hasAll}
+use Rattle.sets.specs.Sets.{bit, with, without, members, hasAll}
 
 -- a digit by recursion on its place
 pub bit-zero : (s : ℕ) → bit s 0 ≡ s % 2

@@ -1,5 +1,5 @@
 -- Laws of sizes: a size is a product of two binomials, it splits by what stands at the highest point, and it fits 48 bits. Assumes nothing.
-use mathlib.Core.Path.{_≡_, refl, sym, ap, ap₂, _∙_, subst}
+use mathlib.Core.Path.{_≡_, refl, sym, ap, _∙_, subst}
 use mathlib.Core.Bool.{Bool, true, false}
 use Prim.Native.Nat.{ℕ, zero, suc, _+_, _*_, _-_, _/_, _^_, _≤_, _<_}
 use native.Mathlib.Nat.{zero-mul, mul-zero, sub-zero, suc-sub-suc, mul-pos, mul-div-cancel, mul-le-mul}
@@ -8,7 +8,7 @@ use lib.Dec.{leb, ltb}
 use borrow.Author.Tests.{leb-true, leb-false, lt-leb, ltb-true, ltb-false}
 use Rattle.sizes.specs.Binomial.{binomial}
 use Rattle.sizes.specs.Size.{factorial, size, sizeWithOne, sizeWithTwo}
-use Rattle.sizes.proofs.Binomials.{pascal, binomial-zero, binomial-none, binomial-over, binomial-small, binomial-factorial}
+use Rattle.sizes.proofs.Binomials.{pascal, binomial-zero, binomial-over, binomial-small, binomial-factorial}
 
 -- the ways to choose m of n points, and then o of those left
 abbrev pub ways : ℕ → ℕ → ℕ → ℕ

@@ -1,14 +1,10 @@
 -- `cases::back` is safe and ends. Assumes nothing.
 use mathlib.Core.Path.{_≡_}
 use Prim.Native.Nat.{_-_, _≤_}
-use native.Mathlib.Omega.{arith}
 use borrow.Author.Needs.{needs}
 use lib.ListN.{length}
 use Rattle.cases.proofs.back.Statement.{statement}
 use Rattle.cases.proofs.back.Tie as tie
-use Rattle.cases.proofs.back.Reads as reads
-use Rattle.cases.proofs.back.Lts as lts
-use Rattle.cases.proofs.comes_back.Reads as comes-back-reads
 
 abbrev Inv-loop : tie.InvT-loop
 Inv-loop rings mover opponent end target₀ n₀ r₀ target n r = (n ≤ r) × (r ≤ end) × (length target ≡ length target₀)

@@ -1,14 +1,9 @@
 -- `cases::points` is safe and ends. Assumes nothing.
-use Prim.Native.Nat.{_-_, _≤_}
-use native.Mathlib.Omega.{arith}
+use Prim.Native.Nat.{_≤_}
 use borrow.Author.Needs.{needs}
 use lib.ListN.{length}
 use Rattle.cases.proofs.points.Statement.{statement}
 use Rattle.cases.proofs.points.Tie as tie
-use Rattle.cases.proofs.points.Reads as reads
-use Rattle.cases.proofs.points.Lts as lts
-use Rattle.cases.proofs.wide.Reads as wide-reads
-use Rattle.io.proofs.print_decimal.Reads as print-decimal-reads
 
 abbrev Inv-loop : tie.InvT-loop
 Inv-loop board i₀ i = i ≤ length board

@@ -1,6 +1,6 @@
 -- `layout::row` meets its contract. The invariant: the sizes of the tables passed. Assumes nothing.
 use mathlib.Core.Path.{_≡_, refl, ap, _∙_}
-use Prim.Native.Nat.{ℕ, suc, _+_, _-_, _*_, _^_, _≤_, _<_}
+use Prim.Native.Nat.{suc, _+_, _-_, _*_, _^_, _≤_}
 use native.Mathlib.Numerals.{add-one}
 use native.Mathlib.Omega.{arith}
 use borrow.Author.Needs.{needs}
@@ -8,9 +8,6 @@ use Rattle.sizes.proofs.Multinomials.{size-small}
 use Rattle.layout.proofs.Places.{rowPart, row-more}
 use Rattle.layout.proofs.row.Statement.{statement}
 use Rattle.layout.proofs.row.Tie as tie
-use Rattle.layout.proofs.row.Reads as reads
-use Rattle.layout.proofs.row.Lts as lts
-use Rattle.sizes.proofs.size.Reads as size-reads
 
 abbrev Inv-loop : tie.InvT-loop
 Inv-loop binomials points m n sum₀ j₀ sum j = (j ≤ n) × (sum ≡ rowPart points m j) × (sum ≤ 2 ^ 48 * j)

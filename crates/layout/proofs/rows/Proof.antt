@@ -1,15 +1,12 @@
 -- `layout::rows` meets its contract. The invariant: the entries of the rows passed. Assumes nothing.
 use mathlib.Core.Path.{_≡_, refl, ap, _∙_}
-use Prim.Native.Nat.{ℕ, suc, _+_, _-_, _*_, _^_, _≤_, _<_}
+use Prim.Native.Nat.{suc, _+_, _-_, _*_, _^_, _≤_}
 use native.Mathlib.Numerals.{add-one}
 use native.Mathlib.Omega.{arith}
 use borrow.Author.Needs.{needs}
 use Rattle.layout.proofs.Places.{rowsPart, rows-more}
 use Rattle.layout.proofs.rows.Statement.{statement}
 use Rattle.layout.proofs.rows.Tie as tie
-use Rattle.layout.proofs.rows.Reads as reads
-use Rattle.layout.proofs.rows.Lts as lts
-use Rattle.layout.proofs.row.Reads as row-reads
 
 abbrev Inv-loop : tie.InvT-loop
 Inv-loop binomials points k n sum₀ i₀ sum i = (i ≤ n) × (sum ≡ rowsPart points k i) × (sum ≤ 2 ^ 48 * 7 * i)

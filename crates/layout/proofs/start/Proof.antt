@@ -6,10 +6,6 @@ use borrow.Author.Needs.{needs}
 use Rattle.layout.proofs.Places.{start-is}
 use Rattle.layout.proofs.start.Statement.{statement}
 use Rattle.layout.proofs.start.Tie as tie
-use Rattle.layout.proofs.start.Reads as reads
-use Rattle.layout.proofs.start.Lts as lts
-use Rattle.layout.proofs.row.Reads as row-reads
-use Rattle.layout.proofs.rows.Reads as rows-reads
 
 sub-rows : tie.Need-sub-rows
 sub-rows c = search needs

@@ -5,9 +5,6 @@ use borrow.Author.Needs.{needs}
 use Rattle.layout.proofs.Places.{length-is}
 use Rattle.layout.proofs.tablebase_length.Statement.{statement}
 use Rattle.layout.proofs.tablebase_length.Tie as tie
-use Rattle.layout.proofs.tablebase_length.Reads as reads
-use Rattle.layout.proofs.tablebase_length.Lts as lts
-use Rattle.layout.proofs.rows.Reads as rows-reads
 
 sub-rows : tie.Need-sub-rows
 sub-rows c = search needs

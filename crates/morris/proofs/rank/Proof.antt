@@ -1,11 +1,11 @@
 -- `morris::rank` meets its contract: the first refusal of the board's picks, or the rank of its position. Assumes nothing.
 use mathlib.Core.Path.{_≡_, sym, ap, subst, _∙_}
 use mathlib.Core.List.{List, [], _∷_}
-use Prim.Native.Nat.{ℕ, _≤_}
+use Prim.Native.Nat.{ℕ}
 use native.Mathlib.Omega.{arith}
 use lib.ListN.{length}
 use borrow.Author.Needs.{needs}
-use Rattle.board.specs.Board.{boardOf, positionOf, OnBoard}
+use Rattle.board.specs.Board.{boardOf, OnBoard}
 use Rattle.board.specs.declared.position.Position.{Position}
 use Rattle.board.proofs.Sides.{board-position, position-on}
 use Rattle.ranking.specs.Rank.{rank as Rank·rank}
@@ -16,12 +16,6 @@ use Rattle.morris.proofs.Conditions.{Accepted, accepted-board}
 use Rattle.morris.proofs.Answering.{answer-refused, answer-accepted}
 use Rattle.morris.proofs.rank.Statement.{statement}
 use Rattle.morris.proofs.rank.Tie as tie
-use Rattle.morris.proofs.rank.Reads as reads
-use Rattle.morris.proofs.rank.Lts as lts
-use Rattle.board.proofs.position_of.Reads as position-of-reads
-use Rattle.morris.proofs.refusals.of_board.Reads as of-board-reads
-use Rattle.ranking.proofs.rank.Reads as rank-reads
-use Rattle.sizes.proofs.binomial_table.Reads as binomial-table-reads
 
 -- past the refusals, the board is accepted
 board-accepted : (c : tie.Else1) → Accepted (c .before .before .before .args .rings) (c .before .before .before .args .board .now)

@@ -1,29 +1,21 @@
 -- `morris::unrank` meets its contract: the first refusal of the rank's picks, or the board of the rank. Assumes nothing.
 use mathlib.Core.Path.{_≡_, sym, ap, ap₂, subst, _∙_}
 use mathlib.Core.List.{List}
-use Prim.Native.Nat.{ℕ, _*_, _≤_, _<_}
+use Prim.Native.Nat.{ℕ, _*_, _<_}
 use native.Mathlib.Omega.{arith}
 use lib.ListN.{length}
 use borrow.Author.Needs.{needs}
 use Rattle.board.specs.Board.{boardOf, positionOf}
-use Rattle.board.specs.declared.position.Position.{Position}
 use Rattle.board.proofs.Sides.{board-position}
-use Rattle.sizes.specs.Binomial.{BinomialTable}
 use Rattle.sizes.specs.Size.{size}
 use Rattle.ranking.specs.Unrank.{unrank as Unrank·unrank}
-use Rattle.ranking.proofs.Inverse.{BoardOf, rank-unrank}
+use Rattle.ranking.proofs.Inverse.{rank-unrank}
 use Rattle.morris.specs.Refusals.{refusal, rankPicks}
 use Rattle.morris.specs.UnrankCall.{unrankCall, unrankTarget}
 use Rattle.morris.proofs.Conditions.{AcceptedRank, accepted-rank}
 use Rattle.morris.proofs.Answering.{answer-refused, answer-accepted, target-kept, target-written}
 use Rattle.morris.proofs.unrank.Statement.{statement}
 use Rattle.morris.proofs.unrank.Tie as tie
-use Rattle.morris.proofs.unrank.Reads as reads
-use Rattle.morris.proofs.unrank.Lts as lts
-use Rattle.board.proofs.write_board.Reads as write-board-reads
-use Rattle.morris.proofs.refusals.of_rank.Reads as of-rank-reads
-use Rattle.ranking.proofs.unrank.Reads as unrank-reads
-use Rattle.sizes.proofs.binomial_table.Reads as binomial-table-reads
 
 -- past the refusals, counts, rank and target are accepted
 rank-accepted : (c : tie.Else1)

@@ -8,40 +8,30 @@ use Rattle.ranking.specs.Unrank.{below}
 use Rattle.ranking.proofs.Steps.{below-two, below-small, with-one}
 use Rattle.ranking.proofs.below.Statement.{statement}
 use Rattle.ranking.proofs.below.Tie as tie
-use Rattle.ranking.proofs.below.Reads as reads
-use Rattle.ranking.proofs.below.Lts as lts
-use Rattle.sizes.proofs.size.Reads as size-reads
 
--- src/ranks.rt:17:9
 returns : tie.Need-returns
 returns c = search needs
 
--- src/ranks.rt:19:9
 size-requires : tie.Need-size-requires
 size-requires c κs = search needs
 
--- src/ranks.rt:21:9
 returns-2 : tie.Need-returns-2
 returns-2 c =
     let a = c .before .before .before .args in
     c .before .size .ensures ∙ ap (λ (x : ℕ). below x (a .n) (a .m) (a .o)) (sym (c .if2 .taken))
 
--- src/ranks.rt:24:9
 returns-3 : tie.Need-returns-3
 returns-3 c =
     let a = c .before .before .before .before .args in
     let z : sizeWithOne (a .n) (a .m) (a .o) ≡ 0 = ap (λ (m : ℕ). sizeWithOne (a .n) m (a .o)) (c .if3 .taken) in
     omega (arith, c .before .before .size .ensures, z, below-two (a .x) (a .n) (a .m) (a .o) (c .before .before .before .if1 .left) (c .before .if2 .left))
 
--- src/ranks.rt:26:43
 sub-size : tie.Need-sub-size
 sub-size c = search needs
 
--- src/ranks.rt:26:14
 size-requires-2 : tie.Need-size-requires-2
 size-requires-2 c κs = search needs
 
--- src/ranks.rt:26:5
 sum : (c : tie.After-size2)
     → c .before .before .before .size .result + c .size2 .result
     ≡ below (c .before .before .before .before .before .args .x) (c .before .before .before .before .before .args .n)
@@ -56,7 +46,6 @@ add-result c =
     let s = c .before .before .before .before .before in
     omega (arith, sum c, below-small (s .args .x) (s .args .n) (s .args .m) (s .args .o) (omega arith))
 
--- src/ranks.rt:11:1
 returns-4 : tie.Need-returns-4
 returns-4 c = sum c
 

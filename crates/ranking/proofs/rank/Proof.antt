@@ -1,11 +1,10 @@
 -- `ranking::rank` meets its contract. The invariant: the counts and the rank of the points passed. Assumes nothing.
-use mathlib.Core.Path.{_≡_, sym, ap, _∙_}
+use mathlib.Core.Path.{sym, ap, _∙_}
 use mathlib.Core.List.{List}
-use Prim.Native.Nat.{ℕ, _+_, _-_, _≤_, _<_}
+use Prim.Native.Nat.{ℕ, _+_, _-_, _<_}
 use native.Mathlib.Omega.{arith}
 use borrow.Author.Needs.{needs}
 use lib.Dec.{eqb}
-use lib.ListN.{length, take}
 use lib.Seq.{take-all}
 use Rattle.board.specs.Board.{digit, boardOf}
 use Rattle.board.proofs.Sides.{digit-lt, length-board, board-at, board-values}
@@ -13,10 +12,6 @@ use Rattle.ranking.specs.Rank.{rank as Rank·rank}
 use Rattle.ranking.proofs.Steps.{Ranking, ranking-none, ranking-more, Small, ranking-small, below-small}
 use Rattle.ranking.proofs.rank.Statement.{statement}
 use Rattle.ranking.proofs.rank.Tie as tie
-use Rattle.ranking.proofs.rank.Reads as reads
-use Rattle.ranking.proofs.rank.Lts as lts
-use Rattle.board.proofs.value_at.Reads as value-at-reads
-use Rattle.ranking.proofs.below.Reads as below-reads
 
 abbrev Inv-loop : tie.InvT-loop
 Inv-loop binomials points position m₀ o₀ r₀ i₀ m o r i = Ranking (boardOf points position) i m o r

@@ -5,9 +5,6 @@ use borrow.Author.Needs.{needs}
 use Rattle.ranking.proofs.Inverse.{top-zero, top-one, top-two}
 use Rattle.ranking.proofs.top_value.Statement.{statement}
 use Rattle.ranking.proofs.top_value.Tie as tie
-use Rattle.ranking.proofs.top_value.Reads as reads
-use Rattle.ranking.proofs.top_value.Lts as lts
-use Rattle.ranking.proofs.below.Reads as below-reads
 
 below-requires : tie.Need-below-requires
 below-requires c κs = search needs

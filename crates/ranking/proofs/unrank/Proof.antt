@@ -1,12 +1,12 @@
 -- `ranking::unrank` meets its contract. The invariant: the sets of the points passed, and the board of what is left. Assumes nothing.
-use mathlib.Core.Path.{_≡_, sym, ap, ap₂, subst, _∙_}
+use mathlib.Core.Path.{_≡_, sym, ap, subst}
 use mathlib.Core.List.{List}
-use Prim.Native.Nat.{ℕ, _+_, _-_, _*_, _^_, _≤_, _<_}
+use Prim.Native.Nat.{ℕ, _+_, _-_, _^_, _≤_, _<_}
 use native.Mathlib.Omega.{arith}
 use borrow.Author.Needs.{needs}
 use lib.Dec.{eqb}
-use lib.ListN.{length, drop}
-use Rattle.board.specs.Board.{digit, setOf, positionOf}
+use lib.ListN.{length}
+use Rattle.board.specs.Board.{positionOf}
 use Rattle.board.proofs.Sides.{digit-lt, set-small}
 use Rattle.ranking.specs.Unrank.{below, unrank as Unrank·unrank}
 use Rattle.sizes.proofs.Multinomials.{stones-few}
@@ -14,10 +14,6 @@ use Rattle.ranking.proofs.Inverse.{Rest}
 use Rattle.ranking.proofs.Steps.{Unranking, unranking-none, unranking-more, rest-at, length-unrank}
 use Rattle.ranking.proofs.unrank.Statement.{statement}
 use Rattle.ranking.proofs.unrank.Tie as tie
-use Rattle.ranking.proofs.unrank.Reads as reads
-use Rattle.ranking.proofs.unrank.Lts as lts
-use Rattle.ranking.proofs.top_value.Reads as top-value-reads
-use Rattle.ranking.proofs.below.Reads as below-reads
 
 abbrev Inv-loop : tie.InvT-loop
 Inv-loop binomials points mover opponent rank first₀ second₀ m₀ o₀ r₀ i₀ first second m o r i =

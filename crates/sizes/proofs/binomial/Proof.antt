@@ -3,31 +3,22 @@ use mathlib.Core.Path.{_∙_}
 use borrow.Author.Needs.{needs}
 use Rattle.sizes.proofs.binomial.Statement.{statement}
 use Rattle.sizes.proofs.binomial.Tie as tie
-use Rattle.sizes.proofs.binomial.Reads as reads
-use Rattle.sizes.proofs.binomial.Lts as lts
-use Rattle.sizes.proofs.wide.Reads as wide-reads
 
--- src/sizes.rt:48:16
 mul-wide : tie.Need-mul-wide
 mul-wide c = search needs
 
--- src/sizes.rt:48:16
 add-wide : tie.Need-add-wide
 add-wide c = search needs
 
--- src/sizes.rt:48:10
 mul-wide-2 : tie.Need-mul-wide-2
 mul-wide-2 c = search needs
 
--- src/sizes.rt:48:10
 element-copy-out-wide : tie.Need-element-copy-out-wide
 element-copy-out-wide c = search needs
 
--- src/sizes.rt:48:5
 wide-requires : tie.Need-wide-requires
 wide-requires c κs = search needs
 
--- src/sizes.rt:43:1
 returns : tie.Need-returns
 returns c =
     let s = c .before .before in

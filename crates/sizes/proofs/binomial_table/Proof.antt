@@ -8,9 +8,6 @@ use Rattle.board.proofs.Table.{stored-more}
 use Rattle.sizes.specs.Binomial.{binomial}
 use Rattle.sizes.proofs.binomial_table.Statement.{statement}
 use Rattle.sizes.proofs.binomial_table.Tie as tie
-use Rattle.sizes.proofs.binomial_table.Reads as reads
-use Rattle.sizes.proofs.binomial_table.Lts as lts
-use Rattle.sizes.proofs.pascal.Reads as pascal-reads
 
 abbrev Inv-loop : tie.InvT-loop
 Inv-loop binomials₀ i₀ binomials i =
@@ -19,31 +16,24 @@ Inv-loop binomials₀ i₀ binomials i =
 abbrev μ-loop : tie.MeasureT-loop
 μ-loop binomials₀ i₀ binomials i = 625 - i
 
--- src/sizes.rt:29:5
 loop-holds : tie.Need-loop-holds Inv-loop μ-loop
 loop-holds c = (omega arith, refl, λ j h. absurd (omega arith))
 
--- src/sizes.rt:30:13
 pascal-requires : tie.Need-pascal-requires Inv-loop μ-loop
 pascal-requires c κs = (omega arith, c .before .before .loop .inv .2)
 
--- src/sizes.rt:31:9
 mul-binomials : tie.Need-mul-binomials Inv-loop μ-loop
 mul-binomials c = search needs
 
--- src/sizes.rt:31:9
 array-write-binomials : tie.Need-array-write-binomials Inv-loop μ-loop
 array-write-binomials c = search needs
 
--- src/sizes.rt:32:9
 add-i : tie.Need-add-i Inv-loop μ-loop
 add-i c = search needs
 
--- src/sizes.rt:29:5
 loop-less : tie.Need-loop-less Inv-loop μ-loop
 loop-less c = search needs
 
--- src/sizes.rt:29:5
 loop-again : tie.Need-loop-again Inv-loop μ-loop
 loop-again c =
     let x = c .before .before .before in (
@@ -52,7 +42,6 @@ loop-again c =
       stored-more (λ j. binomial (j / 25) (j % 25)) (x .loop .binomials) (x .loop .i) (c .pascal .result) (omega arith) (c .pascal .ensures) (x .loop .inv .2),
     )
 
--- src/sizes.rt:24:1
 returns : tie.Need-returns Inv-loop μ-loop
 returns c = record { at = at }
   where

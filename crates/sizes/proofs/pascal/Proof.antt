@@ -8,34 +8,25 @@ use Rattle.sizes.specs.Binomial.{binomial}
 use Rattle.sizes.proofs.Binomials.{binomial-small, entry-one, entry-none, entry-sum}
 use Rattle.sizes.proofs.pascal.Statement.{statement}
 use Rattle.sizes.proofs.pascal.Tie as tie
-use Rattle.sizes.proofs.pascal.Reads as reads
-use Rattle.sizes.proofs.pascal.Lts as lts
 
--- src/sizes.rt:15:9
 returns : tie.Need-returns
 returns c = entry-one (c .before .args .i) (c .if1 .taken)
 
--- src/sizes.rt:18:9
 returns-2 : tie.Need-returns-2
 returns-2 c = entry-none (c .before .before .args .i) (c .before .if1 .left) (c .if2 .taken)
 
--- src/sizes.rt:20:11
 sub-result : tie.Need-sub-result
 sub-result c = search needs
 
--- src/sizes.rt:20:5
 mul-result : tie.Need-mul-result
 mul-result c = search needs
 
--- src/sizes.rt:20:5
 element-copy-out-result : tie.Need-element-copy-out-result
 element-copy-out-result c = search needs
 
--- src/sizes.rt:20:21
 mul-result-2 : tie.Need-mul-result-2
 mul-result-2 c = search needs
 
--- src/sizes.rt:20:21
 element-copy-out-result-2 : tie.Need-element-copy-out-result-2
 element-copy-out-result-2 c = search needs
 
@@ -52,7 +43,6 @@ add-result c =
     let i = c .before .before .before .before .args .i in
     omega (arith, sum c, binomial-small (i / 25) (i % 25) (omega arith))
 
--- src/sizes.rt:9:1
 returns-3 : tie.Need-returns-3
 returns-3 c = sum c
 

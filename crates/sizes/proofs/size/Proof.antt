@@ -7,23 +7,16 @@ use Rattle.sizes.specs.Size.{size}
 use Rattle.sizes.proofs.Multinomials.{size-ways, size-over, size-small}
 use Rattle.sizes.proofs.size.Statement.{statement}
 use Rattle.sizes.proofs.size.Tie as tie
-use Rattle.sizes.proofs.size.Reads as reads
-use Rattle.sizes.proofs.size.Lts as lts
-use Rattle.sizes.proofs.binomial.Reads as binomial-reads
 
--- src/sizes.rt:58:9
 returns : tie.Need-returns
 returns c = let a = c .before .args in sym (size-over (a .points) (a .m) (a .o) (omega arith))
 
--- src/sizes.rt:60:5
 binomial-requires : tie.Need-binomial-requires
 binomial-requires c κs = search needs
 
--- src/sizes.rt:60:34
 binomial-requires-2 : tie.Need-binomial-requires-2
 binomial-requires-2 c κs = search needs
 
--- src/sizes.rt:60:5
 product : (c : tie.After-binomial2)
     → c .before .binomial .result * c .binomial2 .result
     ≡ size (c .before .before .before .args .points) (c .before .before .before .args .m) (c .before .before .before .args .o)
@@ -36,7 +29,6 @@ mul-result c =
     let s = c .before .before .before in
     omega (arith, product c, size-small (s .args .points) (s .args .m) (s .args .o) (s .pre .1 .0))
 
--- src/sizes.rt:52:1
 returns-2 : tie.Need-returns-2
 returns-2 c = product c
 

@@ -3,19 +3,13 @@ use borrow.Author.Needs.{needs}
 use Rattle.board.specs.Board.{positionOf}
 use Rattle.board.proofs.position.position_of.Statement.{statement}
 use Rattle.board.proofs.position.position_of.Tie as tie
-use Rattle.board.proofs.position.position_of.Reads as reads
-use Rattle.board.proofs.position.position_of.Lts as lts
-use Rattle.board.proofs.position.set_of.Reads as set-of-reads
 
--- src/position.rt:33:16
 set-of-requires : tie.Need-set-of-requires
 set-of-requires c κs = search needs
 
--- src/position.rt:34:19
 set-of-requires-2 : tie.Need-set-of-requires-2
 set-of-requires-2 c κs = search needs
 
--- src/position.rt:28:1
 returns : tie.Need-returns
 unfolding positionOf
 returns c = rw (c .before .set-of .ensures, c .set-of2 .ensures)

@@ -1,17 +1,15 @@
 -- `board::position::set_of` meets its contract. The loop goes from the highest point down, and the invariant says that the set is that of the bytes passed. Assumes nothing.
 use mathlib.Core.Path.{_≡_, sym, ap, subst, _∙_}
-use Prim.Native.Nat.{ℕ, _≤_, _+_, _*_, _-_, _^_, _<_}
+use Prim.Native.Nat.{ℕ, _≤_, _-_, _^_, _<_}
 use native.Mathlib.Omega.{arith}
 use borrow.Author.Needs.{needs}
 use lib.ListN.{length, drop, getD}
 use lib.Seq.{drop-length}
 use lib.Dec.{eqb}
-use Rattle.board.specs.Board.{setOf, digit}
+use Rattle.board.specs.Board.{setOf}
 use Rattle.board.proofs.Sides.{set-small, set-step, digit-lt}
 use Rattle.board.proofs.position.set_of.Statement.{statement}
 use Rattle.board.proofs.position.set_of.Tie as tie
-use Rattle.board.proofs.position.set_of.Reads as reads
-use Rattle.board.proofs.position.set_of.Lts as lts
 
 abbrev Inv-loop : tie.InvT-loop
 Inv-loop board v s₀ i₀ s i = (i ≤ length board) × (s ≡ setOf v (drop i board))

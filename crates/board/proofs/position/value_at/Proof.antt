@@ -8,35 +8,25 @@ use Rattle.board.specs.Board.{digit, valueAt}
 use Rattle.board.proofs.Sides.{digit-lt}
 use Rattle.board.proofs.position.value_at.Statement.{statement}
 use Rattle.board.proofs.position.value_at.Tie as tie
-use Rattle.board.proofs.position.value_at.Reads as reads
-use Rattle.board.proofs.position.value_at.Lts as lts
-use Rattle.sets.proofs.has.Reads as has-reads
 
--- src/position.rt:43:5
 has-requires : tie.Need-has-requires
 has-requires c κs = search needs
 
--- src/position.rt:43:5
 cast-result : tie.Need-cast-result
 cast-result c = search needs
 
--- src/position.rt:43:46
 has-requires-2 : tie.Need-has-requires-2
 has-requires-2 c κs = search needs
 
--- src/position.rt:43:46
 cast-result-2 : tie.Need-cast-result-2
 cast-result-2 c = search needs
 
--- src/position.rt:43:42
 mul-result : tie.Need-mul-result
 mul-result c = omega (arith, digit-lt (c .has2 .result))
 
--- src/position.rt:43:5
 add-result : tie.Need-add-result
 add-result c = omega (arith, digit-lt (c .before .has .result), digit-lt (c .has2 .result))
 
--- src/position.rt:39:1
 returns : tie.Need-returns
 unfolding valueAt
 returns c = ap₂ (λ (s t : Bool). digit s + 2 * digit t) (c .before .has .ensures) (c .has2 .ensures)

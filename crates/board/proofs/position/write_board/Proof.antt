@@ -1,6 +1,6 @@
 -- `board::write_board` meets its contract. The invariant: the points passed hold what the position has there. Assumes nothing.
-use mathlib.Core.Path.{_≡_, refl, sym, subst, _∙_}
-use Prim.Native.Nat.{ℕ, _≤_, _<_, _+_, _-_}
+use mathlib.Core.Path.{_≡_, refl, sym, _∙_}
+use Prim.Native.Nat.{ℕ, _≤_, _<_, _-_}
 use native.Mathlib.Omega.{arith}
 use borrow.Author.Needs.{needs}
 use lib.ListN.{length, getD, length-set}
@@ -10,9 +10,6 @@ use Rattle.board.proofs.Table.{stored-more}
 use Rattle.board.proofs.Sides.{length-board, board-at}
 use Rattle.board.proofs.position.write_board.Statement.{statement}
 use Rattle.board.proofs.position.write_board.Tie as tie
-use Rattle.board.proofs.position.write_board.Reads as reads
-use Rattle.board.proofs.position.write_board.Lts as lts
-use Rattle.board.proofs.position.value_at.Reads as value-at-reads
 
 abbrev Inv-loop : tie.InvT-loop
 Inv-loop position target₀ i₀ target i =
@@ -21,27 +18,21 @@ Inv-loop position target₀ i₀ target i =
 abbrev μ-loop : tie.MeasureT-loop
 μ-loop position target₀ i₀ target i = length target - i
 
--- src/position.rt:52:5
 loop-holds : tie.Need-loop-holds Inv-loop μ-loop
 loop-holds c = (omega arith, refl, λ k h. absurd (omega arith))
 
--- src/position.rt:53:21
 value-at-requires : tie.Need-value-at-requires Inv-loop μ-loop
 value-at-requires c κs = search needs
 
--- src/position.rt:53:9
 slice-write-target : tie.Need-slice-write-target Inv-loop μ-loop
 slice-write-target c = search needs
 
--- src/position.rt:54:9
 add-i : tie.Need-add-i Inv-loop μ-loop
 add-i c = search needs
 
--- src/position.rt:52:5
 loop-less : tie.Need-loop-less Inv-loop μ-loop
 loop-less c = simp length-set (omega arith)
 
--- src/position.rt:52:5
 loop-again : tie.Need-loop-again Inv-loop μ-loop
 loop-again c =
     let x = c .before .before in
@@ -52,11 +43,9 @@ loop-again c =
       stored-more f (x .loop .target) (x .loop .i) (c .value-at .result) l (c .value-at .ensures) (x .loop .inv .2),
     )
 
--- src/position.rt:47:1
 same-length : tie.Need-same-length Inv-loop μ-loop
 same-length c = c .before .loop .inv .1
 
--- src/position.rt:47:1
 returns : tie.Need-returns Inv-loop μ-loop
 returns c =
     let x = c .before in

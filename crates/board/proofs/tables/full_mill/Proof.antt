@@ -1,6 +1,5 @@
 -- `board::full_mill` meets its contract: the table's points, and the count of three. Assumes nothing.
-use mathlib.Core.Path.{_≡_, _∙_}
-use Prim.Native.Nat.{ℕ, _<_}
+use mathlib.Core.Path.{_∙_}
 use borrow.Author.Needs.{needs}
 use Rattle.board.proofs.Geometry.{mill-points}
 use Rattle.board.proofs.tables.full_mill.Statement.{statement}

@@ -1,10 +1,8 @@
 -- `morris::refusals::of_board` meets its contract: each return is a row of the board's picks, with the rows before it passed. Assumes nothing.
 use mathlib.Core.Path.{_≡_, sym, ap, _∙_}
-use mathlib.Core.Bool.{Bool, true, false, not}
+use mathlib.Core.Bool.{false, not}
 use mathlib.Core.List.{List}
-use Prim.Native.Nat.{ℕ, _*_}
 use native.Mathlib.Omega.{arith}
-use lib.Dec.{eqb}
 use lib.ListN.{length}
 use borrow.Author.Tests.{eq-eqb, ne-eqb}
 use borrow.Author.Needs.{needs}
@@ -13,11 +11,6 @@ use Rattle.morris.proofs.FirstRefusal.{meets, passes}
 use Rattle.morris.proofs.Conditions.{rings-right}
 use Rattle.morris.proofs.refusals.of_board.Statement.{statement}
 use Rattle.morris.proofs.refusals.of_board.Tie as tie
-use Rattle.morris.proofs.refusals.of_board.Reads as reads
-use Rattle.morris.proofs.refusals.of_board.Lts as lts
-use Rattle.morris.proofs.refusals.rings_wrong.Reads as rings-wrong-reads
-use Rattle.morris.proofs.refusals.stones_wrong.Reads as stones-wrong-reads
-use Rattle.morris.proofs.refusals.value_wrong.Reads as value-wrong-reads
 
 -- the rows that the call picks
 rows : (s : tie.Start) → List Picked

@@ -1,24 +1,17 @@
 -- `morris::refusals::of_rank` meets its contract: each return is a row of the rank's picks, with the rows before it passed. Assumes nothing.
 use mathlib.Core.Path.{_≡_, sym, ap, _∙_}
-use mathlib.Core.Bool.{Bool, true, false, not}
+use mathlib.Core.Bool.{false, not}
 use mathlib.Core.List.{List}
-use Prim.Native.Nat.{ℕ, _*_}
+use Prim.Native.Nat.{_*_}
 use native.Mathlib.Omega.{arith}
-use lib.Dec.{eqb}
 use borrow.Author.Tests.{eq-eqb, ne-eqb, le-leb, lt-leb}
 use borrow.Author.Needs.{needs}
-use Rattle.sizes.specs.Binomial.{BinomialTable}
 use Rattle.sizes.specs.Size.{size}
-use Rattle.morris.specs.Refusals.{Picked, table, pickedRows, rankPicks, ringsWrong, lengthWrong, countsWrong, rankWrong}
+use Rattle.morris.specs.Refusals.{Picked, table, pickedRows, rankPicks, ringsWrong, lengthWrong, countsWrong}
 use Rattle.morris.proofs.FirstRefusal.{meets, passes}
 use Rattle.morris.proofs.Conditions.{rings-right, counts-right}
 use Rattle.morris.proofs.refusals.of_rank.Statement.{statement}
 use Rattle.morris.proofs.refusals.of_rank.Tie as tie
-use Rattle.morris.proofs.refusals.of_rank.Reads as reads
-use Rattle.morris.proofs.refusals.of_rank.Lts as lts
-use Rattle.morris.proofs.refusals.counts_wrong.Reads as counts-wrong-reads
-use Rattle.morris.proofs.refusals.rings_wrong.Reads as rings-wrong-reads
-use Rattle.sizes.proofs.size.Reads as size-reads
 
 -- the rows that the call picks
 rows : (s : tie.Start) → List Picked

@@ -1,5 +1,5 @@
 -- `morris::refusals::stones_wrong` meets its contract: the members of each side's set are its stones. Assumes nothing.
-use mathlib.Core.Path.{_≡_, ap, ap₂, _∙_}
+use mathlib.Core.Path.{ap, ap₂, _∙_}
 use mathlib.Core.List.{List}
 use Prim.Native.Nat.{ℕ}
 use native.Mathlib.Omega.{arith}
@@ -12,11 +12,6 @@ use Rattle.board.proofs.Sides.{members-count}
 use Rattle.morris.specs.Refusals.{countsWrong}
 use Rattle.morris.proofs.refusals.stones_wrong.Statement.{statement}
 use Rattle.morris.proofs.refusals.stones_wrong.Tie as tie
-use Rattle.morris.proofs.refusals.stones_wrong.Reads as reads
-use Rattle.morris.proofs.refusals.stones_wrong.Lts as lts
-use Rattle.board.proofs.position_of.Reads as position-of-reads
-use Rattle.morris.proofs.refusals.counts_wrong.Reads as counts-wrong-reads
-use Rattle.sets.proofs.count.Reads as count-reads
 
 position-of-requires : tie.Need-position-of-requires
 position-of-requires c κs = search needs

@@ -10,8 +10,6 @@ use Rattle.morris.specs.Refusals.{valueWrong}
 use Rattle.morris.proofs.Conditions.{value-step}
 use Rattle.morris.proofs.refusals.value_wrong.Statement.{statement}
 use Rattle.morris.proofs.refusals.value_wrong.Tie as tie
-use Rattle.morris.proofs.refusals.value_wrong.Reads as reads
-use Rattle.morris.proofs.refusals.value_wrong.Lts as lts
 
 abbrev Inv-loop : tie.InvT-loop
 Inv-loop board found₀ i₀ found i = (i ≤ length board) × (found ≡ valueWrong (drop i board))
