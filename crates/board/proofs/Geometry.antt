@@ -8,11 +8,11 @@ use native.Mathlib.Omega.{arith}
 use lib.Dec.{eqb, ltb}
 use lib.ListN.{length, take}
 use borrow.Author.Tests.{ltb-true, eqb-false, not-true}
-use Rattle.board.specs.Lists.{range, keep, all, each}
+use Rattle.lists.specs.Lists.{range, keep, all, each}
 use Rattle.board.specs.Geometry.{points, follows, inward, adjoin, neighbours, ringMills, crossMills, mills}
 use Rattle.board.specs.Tables.{millPoint}
-use Rattle.board.proofs.Table.{passed}
-use Rattle.board.proofs.Lists.{keep-below}
+use Rattle.lists.proofs.Table.{passed}
+use Rattle.lists.proofs.Keep.{keep-below}
 
 -- 4, 8 and 16 mills
 pub mill-counts : (length (mills 1) ∷ length (mills 2) ∷ length (mills 3) ∷ []) ≡ 4 ∷ 8 ∷ 16 ∷ []

@@ -13,9 +13,10 @@ use lib.ListN.{length, getD, drop, length-drop}
 use lib.Seq.{drop-cons, ext-getD}
 use Rattle.sets.specs.Sets.{bit, members}
 use Rattle.sets.proofs.Laws.{bit-zero, bit-suc, members-all}
+use Rattle.lists.specs.Lists.{values}
 use Rattle.board.specs.declared.position.Position.{Position}
-use Rattle.board.specs.Board.{Values, more, count, digit, setOf, positionOf, valueAt, values, boardOf, OnBoard}
-use Rattle.board.proofs.Table.{rule, length-values}
+use Rattle.board.specs.Board.{Values, more, count, digit, setOf, positionOf, valueAt, boardOf, OnBoard}
+use Rattle.lists.proofs.Table.{rule, length-values}
 
 pub digit-lt : (b : Bool) → digit b < 2
 digit-lt true = omega arith

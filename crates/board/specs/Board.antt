@@ -4,6 +4,7 @@ use mathlib.Core.List.{List, [], _∷_}
 use Prim.Native.Nat.{ℕ, zero, suc, _+_, _*_, _^_, _≤_, _<_}
 use lib.Dec.{eqb}
 use Rattle.sets.specs.Sets.{bit, has}
+use Rattle.lists.specs.Lists.{values}
 use Rattle.board.specs.declared.position.Position.{Position}
 
 -- A board is the list of what stands at points 0, 1, ..: 0 vacant, 1 the side to move, 2 the other side.
@@ -37,11 +38,6 @@ positionOf b = record { mover = setOf 1 b; opponent = setOf 2 b }
 -- what a position has at a point
 unfoldable pub valueAt : Position → ℕ → ℕ
 valueAt p q = digit (has (p .mover) q) + 2 * digit (has (p .opponent) q)
-
--- the values of f at i, i + 1, .., i + n - 1
-abbrev pub values : (ℕ → ℕ) → ℕ → ℕ → List ℕ
-values f i zero = []
-values f i (suc n) = f i ∷ values f (suc i) n
 
 -- the board of so many points that a position stands for
 unfoldable pub boardOf : ℕ → Position → List ℕ

@@ -4,7 +4,7 @@ use mathlib.Core.Bool.{Bool, true, false, _&&_, _||_}
 use mathlib.Core.List.{List, [], _∷_, _++_, map}
 use Prim.Native.Nat.{ℕ, _+_, _*_, _/_, _%_}
 use lib.Dec.{eqb}
-use Rattle.board.specs.Lists.{range, keep, each}
+use Rattle.lists.specs.Lists.{range, keep, each}
 
 abbrev pub ring : ℕ → ℕ
 ring p = p / 8

@@ -1,4 +1,3 @@
-pub mod Lists
 pub mod Geometry
 pub mod Tables
 pub mod Board

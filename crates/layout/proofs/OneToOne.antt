@@ -7,8 +7,8 @@ use Prim.Native.Nat.{ℕ, _+_, _-_, _≤_, _<_}
 use native.Mathlib.Omega.{arith}
 use lib.Dec.{eqb, leb, ltb}
 use borrow.Author.Tests.{ltb-true, ltb-false, leb-true, le-leb, eqb-true, eq-eqb}
-use Rattle.board.specs.Lists.{each}
-use Rattle.board.proofs.Members.{keep-member, member-keep, each-member, member-each, map-member, member-map, range-member, member-range}
+use Rattle.lists.specs.Lists.{each}
+use Rattle.lists.proofs.Members.{keep-member, member-keep, each-member, member-each, map-member, member-map, range-member, member-range}
 use Rattle.sizes.specs.Size.{size}
 use Rattle.layout.specs.Layout.{Table, table, stones, row, tables, entries, earlier, start, end, tablebaseLength}
 use Rattle.sizes.proofs.Multinomials.{stones-few}

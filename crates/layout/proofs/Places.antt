@@ -8,8 +8,8 @@ use native.Mathlib.Nat.{add-zero, zero-add, add-suc, suc-add}
 use native.Mathlib.Omega.{arith}
 use lib.Dec.{leb, ltb}
 use borrow.Author.Tests.{leb-false, lt-ltb, le-ltb, eq-eqb, ne-eqb}
-use Rattle.board.specs.Lists.{range, keep, each}
-use Rattle.board.proofs.Lists.{keep-yes, keep-no}
+use Rattle.lists.specs.Lists.{range, keep, each}
+use Rattle.lists.proofs.Keep.{keep-yes, keep-no}
 use Rattle.sizes.specs.Size.{size}
 use Rattle.layout.specs.Layout.{Table, table, stones, row, tables, entries, earlier, start, tablebaseLength}
 use Rattle.sizes.proofs.Multinomials.{size-over}

@@ -3,7 +3,7 @@ use mathlib.Core.Bool.{Bool, _&&_, _||_}
 use mathlib.Core.List.{List, [], _∷_, map}
 use Prim.Native.Nat.{ℕ, _+_, _-_}
 use lib.Dec.{eqb, leb, ltb}
-use Rattle.board.specs.Lists.{range, keep, each}
+use Rattle.lists.specs.Lists.{range, keep, each}
 use Rattle.sizes.specs.Size.{size}
 
 -- a table, by the mover's count and the opponent's

@@ -2,7 +2,7 @@
 ghost use mathlib.Core.Path.{_≡_};
 ghost use mathlib.Core.List.{map};
 ghost use Prim.Native.Nat.{_*_, _^_, _≤_};
-ghost use Rattle.board.specs.Lists.{range, each};
+ghost use Rattle.lists.specs.Lists.{range, each};
 ghost use Rattle.layout.specs.Layout.{table, row, entries, start, tablebaseLength};
 ghost use Rattle.sizes.specs.Binomial.{BinomialTable};
 

@@ -7,7 +7,7 @@ use native.Mathlib.Omega.{arith}
 use lib.Dec.{ltb}
 use lib.ListN.{length}
 use borrow.Author.Tests.{ltb-true}
-use Rattle.board.specs.Lists.{all}
+use Rattle.lists.specs.Lists.{all}
 use Rattle.morris.specs.Refusals.{Picked, first}
 
 -- the conditions of the first i rows do not hold

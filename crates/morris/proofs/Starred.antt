@@ -1,7 +1,7 @@
 -- All starred cases hold, by computation from the definitions. Assumes nothing.
 use mathlib.Core.Path.{_≡_, refl}
 use mathlib.Core.Bool.{true}
-use Rattle.board.specs.Lists.{all}
+use Rattle.lists.specs.Lists.{all}
 use Rattle.sizes.specs.Size.{size}
 use Rattle.ranking.specs.Rank.{readingRank, rank}
 use Rattle.layout.specs.Layout.{tables, tablebaseLength}

@@ -4,7 +4,7 @@ use Prim.Native.Nat.{ℕ, _+_, _-_, _*_, _/_, _%_, _≤_, _<_}
 use native.Mathlib.Omega.{arith}
 use borrow.Author.Needs.{needs}
 use lib.ListN.{length, getD, length-set}
-use Rattle.board.proofs.Table.{stored-more}
+use Rattle.lists.proofs.Table.{stored-more}
 use Rattle.sizes.specs.Binomial.{binomial}
 use Rattle.sizes.proofs.binomial_table.Statement.{statement}
 use Rattle.sizes.proofs.binomial_table.Tie as tie

@@ -6,7 +6,7 @@ use borrow.Author.Needs.{needs}
 use lib.ListN.{length, getD, length-set}
 use lib.Seq.{ext-getD}
 use Rattle.board.specs.Board.{valueAt, boardOf}
-use Rattle.board.proofs.Table.{stored-more}
+use Rattle.lists.proofs.Table.{stored-more}
 use Rattle.board.proofs.Sides.{length-board, board-at}
 use Rattle.board.proofs.position.write_board.Statement.{statement}
 use Rattle.board.proofs.position.write_board.Tie as tie

@@ -2,7 +2,7 @@
 use Prim.Native.Nat.{ℕ}
 use lib.ListN.{length}
 use Rattle.board.specs.Geometry.{points, follows, inward, adjoin, neighbours}
-use Rattle.board.proofs.Table.{rule}
+use Rattle.lists.proofs.Table.{rule}
 use Rattle.board.proofs.tables.degree_table.Statement.{statement}
 use Rattle.board.proofs.tables.degree_table.Tie as tie
 

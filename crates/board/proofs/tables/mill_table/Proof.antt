@@ -1,7 +1,7 @@
 -- `board::mill_table` meets its contract: the rule's values, listed by computation, are the table. Assumes nothing.
 use Rattle.board.specs.Geometry.{ringMills, crossMills, mills}
 use Rattle.board.specs.Tables.{millPoint}
-use Rattle.board.proofs.Table.{rule-rows}
+use Rattle.lists.proofs.Table.{rule-rows}
 use Rattle.board.proofs.tables.mill_table.Statement.{statement}
 use Rattle.board.proofs.tables.mill_table.Tie as tie
 

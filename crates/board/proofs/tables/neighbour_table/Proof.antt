@@ -1,7 +1,7 @@
 -- `board::neighbour_table` meets its contract: the rule's values, listed by computation, are the table. Assumes nothing.
 use lib.ListN.{getD}
 use Rattle.board.specs.Geometry.{points, follows, inward, adjoin, neighbours}
-use Rattle.board.proofs.Table.{rule-rows}
+use Rattle.lists.proofs.Table.{rule-rows}
 use Rattle.board.proofs.tables.neighbour_table.Statement.{statement}
 use Rattle.board.proofs.tables.neighbour_table.Tie as tie
 

@@ -8,6 +8,11 @@ abbrev pub range : ℕ → ℕ → List ℕ
 range a zero = []
 range a (suc n) = a ∷ range (suc a) n
 
+-- the values of f at i, i + 1, .., i + n - 1
+abbrev pub values : (ℕ → ℕ) → ℕ → ℕ → List ℕ
+values f i zero = []
+values f i (suc n) = f i ∷ values f (suc i) n
+
 module _ {A : Type 0} where
   -- the members that pass a test, in their order
   abbrev pub keep : (A → Bool) → List A → List A

@@ -11,8 +11,7 @@ use lib.Arith.{digits-lt, digits-div, digits-mod}
 use lib.ListN.{getD, length, set}
 use lib.Seq.{getD-set-same, getD-set-other}
 use borrow.Author.Count.{below-more}
-use Rattle.board.specs.Lists.{range, all}
-use Rattle.board.specs.Board.{values}
+use Rattle.lists.specs.Lists.{range, values, all}
 
 from : (f : ℕ → ℕ) (n i k : ℕ) → k < n → getD (values f i n) k 0 ≡ f (i + k)
 from f zero i k h = absurd (not-suc-le-zero h)

@@ -6,7 +6,7 @@ use Prim.Native.Nat.{ℕ, zero, suc, _+_, _≤_}
 use native.Mathlib.Omega.{arith}
 use lib.Dec.{ltb}
 use borrow.Author.Tests.{lt-ltb, le-ltb}
-use Rattle.board.specs.Lists.{range, keep}
+use Rattle.lists.specs.Lists.{range, keep}
 
 module _ {A : Type 0} (f : A → Bool) (x : A) (xs : List A) where
   pub keep-yes : f x ≡ true → keep f (x ∷ xs) ≡ x ∷ keep f xs

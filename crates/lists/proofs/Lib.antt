@@ -1,0 +1,3 @@
+pub mod Keep
+pub mod Members
+pub mod Table
