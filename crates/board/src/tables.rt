@@ -187,18 +187,21 @@ const MILLS: [usize; 48] = [
     23,
 ];
 
+// The neighbours of all points, as a value to lend.
 pub fn neighbour_table() -> [usize; 96]
     ensures { λ r. ⌜ NeighbourTable r ⌝ }
 {
     NEIGHBOURS
 }
 
+// The numbers of neighbours of all points, as a value to lend.
 pub fn degree_table() -> [usize; 24]
     ensures { λ r. ⌜ DegreeTable r ⌝ }
 {
     DEGREES
 }
 
+// The points of all mills, as a value to lend.
 pub fn mill_table() -> [usize; 48]
     ensures { λ r. ⌜ MillTable r ⌝ }
 {

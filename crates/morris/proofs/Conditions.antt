@@ -10,7 +10,8 @@ use lib.Seq.{drop-cons}
 use borrow.Author.Tests.{ltb-false, leb-false, eqb-true, not-false}
 use Rattle.board.specs.Board.{Values, count}
 use Rattle.sizes.specs.Size.{size}
-use Rattle.morris.specs.Refusals.{table, pickedRows, refusal, boardPicks, rankPicks, ringsWrong, lengthWrong, valueWrong, countsWrong}
+use Rattle.morris.specs.Refusals.{table, pickedRows, refusal}
+use Rattle.morris.specs.Conditions.{boardPicks, rankPicks, ringsWrong, lengthWrong, valueWrong, countsWrong}
 use Rattle.morris.proofs.FirstRefusal.{passed}
 
 or-left : (a b : Bool) → (a || b) ≡ false → a ≡ false

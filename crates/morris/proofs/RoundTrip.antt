@@ -11,7 +11,8 @@ use Rattle.sizes.specs.Size.{size}
 use Rattle.ranking.specs.Rank.{rank}
 use Rattle.ranking.specs.Unrank.{unrank}
 use Rattle.ranking.proofs.Inverse.{rank-unrank, unrank-rank, rank-low}
-use Rattle.morris.specs.Refusals.{table, pickedRows, refusal, boardPicks, rankPicks, ringsWrong, lengthWrong, valueWrong, countsWrong}
+use Rattle.morris.specs.Refusals.{table, pickedRows, refusal}
+use Rattle.morris.specs.Conditions.{boardPicks, rankPicks, ringsWrong, lengthWrong, valueWrong, countsWrong}
 use Rattle.morris.specs.Answers.{accepted, answer, number, target}
 use Rattle.morris.specs.RankCall.{rankCall}
 use Rattle.morris.specs.UnrankCall.{unrankCall, unrankTarget}

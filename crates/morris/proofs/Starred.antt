@@ -5,7 +5,7 @@ use Rattle.lists.specs.Lists.{all}
 use Rattle.sizes.specs.Size.{size}
 use Rattle.ranking.specs.Rank.{readingRank, rank}
 use Rattle.layout.specs.Layout.{tables, tablebaseLength}
-use Rattle.morris.specs.Refusals.{valueWrong}
+use Rattle.morris.specs.Conditions.{valueWrong}
 use Rattle.morris.specs.RankCall.{rankCall}
 use Rattle.morris.specs.Cases.{holds, starred}
 

@@ -5,7 +5,8 @@ use Prim.Native.Nat.{ℕ, _*_}
 use lib.Dec.{eqb}
 use Rattle.sizes.specs.Size.{size}
 use Rattle.layout.specs.Layout.{tablebaseLength}
-use Rattle.morris.specs.Refusals.{refusal, rankPicks}
+use Rattle.morris.specs.Refusals.{refusal}
+use Rattle.morris.specs.Conditions.{rankPicks}
 use Rattle.morris.specs.Answers.{number, value}
 use Rattle.morris.specs.RankCall.{rankCall}
 

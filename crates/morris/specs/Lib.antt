@@ -1,4 +1,5 @@
 pub mod Refusals
+pub mod Conditions
 pub mod Answers
 pub mod RankCall
 pub mod UnrankCall

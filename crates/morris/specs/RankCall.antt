@@ -2,7 +2,8 @@
 use mathlib.Core.List.{List, [], _∷_}
 use Prim.Native.Nat.{ℕ}
 use Rattle.ranking.specs.Rank.{rank}
-use Rattle.morris.specs.Refusals.{refusal, boardPicks}
+use Rattle.morris.specs.Refusals.{refusal}
+use Rattle.morris.specs.Conditions.{boardPicks}
 use Rattle.morris.specs.Answers.{Answer, accepted, refused, answer}
 use Rattle.morris.specs.declared.Ranked.{Ranked}
 use Rattle.morris.specs.declared.Ranked.the-variants.{Rank, Refused}

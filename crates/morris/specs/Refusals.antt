@@ -1,12 +1,9 @@
 -- Where a call is turned back (document 01, the table of that name): "Places are taken from top to bottom, conditions left to right; a call
 -- meets those that concern its arguments." Assumes nothing.
-use mathlib.Core.Bool.{Bool, true, false, not, _||_}
+use mathlib.Core.Bool.{Bool, true, false}
 use mathlib.Core.List.{List, [], _∷_, _++_}
-use Prim.Native.Nat.{ℕ, _+_, _*_}
-use lib.Dec.{eqb, leb, ltb}
-use lib.ListN.{length}
-use Rattle.board.specs.Board.{count}
-use Rattle.sizes.specs.Size.{size}
+use Prim.Native.Nat.{ℕ}
+use lib.Dec.{eqb}
 
 -- the conditions, by what is wrong
 pub data Condition : Type 0 where
@@ -21,7 +18,7 @@ pub record Row : Type 0 where
 abbrev pub row : Condition → ℕ → Row
 row c n = record { condition = c; number = n }
 
--- the table
+-- the table, a line for each place
 abbrev pub table : List Row
 table =
     row wrongFrame 14
@@ -86,42 +83,3 @@ first (r ∷ rs) = elim (r .holds) [ true ↦ r .number | false ↦ first rs ]
 -- the refusal that a call meets, 0 for none
 abbrev pub refusal : List Pick → ℕ
 refusal ps = first (pickedRows table ps)
-
--- 1: not 1, 2 or 3
-abbrev pub ringsWrong : ℕ → Bool
-ringsWrong rings = ltb rings 1 || ltb 3 rings
-
--- 2 and 6: the length of a board is not 8 × rings
-abbrev pub lengthWrong : ℕ → ℕ → Bool
-lengthWrong rings n = not (eqb n (8 * rings))
-
--- 3: a value above 2
-unfoldable pub valueWrong : List ℕ → Bool
-valueWrong [] = false
-valueWrong (x ∷ b) = ltb 2 x || valueWrong b
-
--- 4: a count outside 3 to 9, or a sum above the points
-abbrev pub countsWrong : ℕ → ℕ → ℕ → Bool
-countsWrong points m o = ltb m 3 || ltb 9 m || ltb o 3 || ltb 9 o || ltb points (m + o)
-
--- 5: a rank not below the size
-abbrev pub rankWrong : ℕ → ℕ → ℕ → ℕ → Bool
-rankWrong points m o r = leb (size points m o) r
-
--- what every call picks for rings and a board
-abbrev pub boardPicks : ℕ → List ℕ → List Pick
-boardPicks rings b =
-    pick wrongRings (ringsWrong rings)
-    ∷ pick wrongLength (lengthWrong rings (length b))
-    ∷ pick wrongValue (valueWrong b)
-    ∷ pick wrongCounts (countsWrong (8 * rings) (count 1 b) (count 2 b))
-    ∷ []
-
--- what a call picks for rings, counts, a rank and a target of so many bytes
-abbrev pub rankPicks : ℕ → ℕ → ℕ → ℕ → ℕ → List Pick
-rankPicks rings m o r room =
-    pick wrongRings (ringsWrong rings)
-    ∷ pick wrongCounts (countsWrong (8 * rings) m o)
-    ∷ pick wrongTarget (lengthWrong rings room)
-    ∷ pick wrongRank (rankWrong (8 * rings) m o r)
-    ∷ []

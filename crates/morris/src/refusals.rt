@@ -3,7 +3,8 @@ ghost use mathlib.Core.Path.{_≡_};
 ghost use Prim.Native.Nat.{_≤_};
 ghost use lib.ListN.{length};
 ghost use Rattle.board.specs.Board.{count};
-ghost use Rattle.morris.specs.Refusals.{ringsWrong, valueWrong, countsWrong, refusal, boardPicks, rankPicks};
+ghost use Rattle.morris.specs.Refusals.{refusal};
+ghost use Rattle.morris.specs.Conditions.{ringsWrong, valueWrong, countsWrong, boardPicks, rankPicks};
 ghost use Rattle.sizes.specs.Binomial.{BinomialTable};
 
 // The refusal numbers of document 01.

@@ -34,12 +34,14 @@ pub fn binomial_table() -> [u32; 625]
     binomials
 }
 
+// A table entry as a number of boards.
 fn wide(x: u32) -> usize
     ensures { λ r. ⌜ r ≡ x ⌝ }
 {
     x as usize
 }
 
+// The binomial of row n and column k.
 fn binomial(binomials: &[u32; 625], n: usize, k: usize) -> usize
     requires { ⌜ BinomialTable (now binomials) ⌝ }
     requires { ⌜ (n < 25) × (k < 25) ⌝ }

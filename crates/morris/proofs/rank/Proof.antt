@@ -9,7 +9,8 @@ use Rattle.board.specs.Board.{boardOf, OnBoard}
 use Rattle.board.specs.declared.position.Position.{Position}
 use Rattle.board.proofs.Sides.{board-position, position-on}
 use Rattle.ranking.specs.Rank.{rank as Rank·rank}
-use Rattle.morris.specs.Refusals.{refusal, boardPicks}
+use Rattle.morris.specs.Refusals.{refusal}
+use Rattle.morris.specs.Conditions.{boardPicks}
 use Rattle.morris.specs.Answers.{accepted}
 use Rattle.morris.specs.RankCall.{rankCall}
 use Rattle.morris.proofs.Conditions.{Accepted, accepted-board}

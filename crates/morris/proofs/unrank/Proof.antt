@@ -10,7 +10,8 @@ use Rattle.board.proofs.Sides.{board-position}
 use Rattle.sizes.specs.Size.{size}
 use Rattle.ranking.specs.Unrank.{unrank as Unrank·unrank}
 use Rattle.ranking.proofs.Inverse.{rank-unrank}
-use Rattle.morris.specs.Refusals.{refusal, rankPicks}
+use Rattle.morris.specs.Refusals.{refusal}
+use Rattle.morris.specs.Conditions.{rankPicks}
 use Rattle.morris.specs.UnrankCall.{unrankCall, unrankTarget}
 use Rattle.morris.proofs.Conditions.{AcceptedRank, accepted-rank}
 use Rattle.morris.proofs.Answering.{answer-refused, answer-accepted, target-kept, target-written}

@@ -6,7 +6,8 @@ use native.Mathlib.Omega.{arith}
 use lib.ListN.{length}
 use borrow.Author.Tests.{eq-eqb, ne-eqb}
 use borrow.Author.Needs.{needs}
-use Rattle.morris.specs.Refusals.{Picked, table, pickedRows, boardPicks, ringsWrong, lengthWrong, valueWrong}
+use Rattle.morris.specs.Refusals.{Picked, table, pickedRows}
+use Rattle.morris.specs.Conditions.{boardPicks, ringsWrong, lengthWrong, valueWrong}
 use Rattle.morris.proofs.FirstRefusal.{meets, passes}
 use Rattle.morris.proofs.Conditions.{rings-right}
 use Rattle.morris.proofs.refusals.of_board.Statement.{statement}

@@ -7,7 +7,8 @@ use native.Mathlib.Omega.{arith}
 use borrow.Author.Tests.{eq-eqb, ne-eqb, le-leb, lt-leb}
 use borrow.Author.Needs.{needs}
 use Rattle.sizes.specs.Size.{size}
-use Rattle.morris.specs.Refusals.{Picked, table, pickedRows, rankPicks, ringsWrong, lengthWrong, countsWrong}
+use Rattle.morris.specs.Refusals.{Picked, table, pickedRows}
+use Rattle.morris.specs.Conditions.{rankPicks, ringsWrong, lengthWrong, countsWrong}
 use Rattle.morris.proofs.FirstRefusal.{meets, passes}
 use Rattle.morris.proofs.Conditions.{rings-right, counts-right}
 use Rattle.morris.proofs.refusals.of_rank.Statement.{statement}

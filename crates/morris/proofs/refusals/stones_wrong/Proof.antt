@@ -9,7 +9,7 @@ use Rattle.sets.proofs.Laws.{members-le}
 use Rattle.board.specs.Board.{positionOf}
 use Rattle.board.specs.declared.position.Position.{Position}
 use Rattle.board.proofs.Sides.{members-count}
-use Rattle.morris.specs.Refusals.{countsWrong}
+use Rattle.morris.specs.Conditions.{countsWrong}
 use Rattle.morris.proofs.refusals.stones_wrong.Statement.{statement}
 use Rattle.morris.proofs.refusals.stones_wrong.Tie as tie
 

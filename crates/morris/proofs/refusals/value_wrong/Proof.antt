@@ -6,7 +6,7 @@ use native.Mathlib.Omega.{arith}
 use lib.Dec.{ltb}
 use lib.ListN.{length, drop, getD}
 use lib.Seq.{drop-length}
-use Rattle.morris.specs.Refusals.{valueWrong}
+use Rattle.morris.specs.Conditions.{valueWrong}
 use Rattle.morris.proofs.Conditions.{value-step}
 use Rattle.morris.proofs.refusals.value_wrong.Statement.{statement}
 use Rattle.morris.proofs.refusals.value_wrong.Tie as tie

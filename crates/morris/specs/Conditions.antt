@@ -1,0 +1,48 @@
+-- The conditions of document 01's table, and what calls pick of it for their arguments. Assumes nothing.
+use mathlib.Core.Bool.{Bool, false, not, _||_}
+use mathlib.Core.List.{List, [], _∷_}
+use Prim.Native.Nat.{ℕ, _+_, _*_}
+use lib.Dec.{eqb, leb, ltb}
+use lib.ListN.{length}
+use Rattle.board.specs.Board.{count}
+use Rattle.sizes.specs.Size.{size}
+use Rattle.morris.specs.Refusals.{Pick, pick, wrongRings, wrongLength, wrongValue, wrongCounts, wrongTarget, wrongRank}
+
+-- 1: not 1, 2 or 3
+abbrev pub ringsWrong : ℕ → Bool
+ringsWrong rings = ltb rings 1 || ltb 3 rings
+
+-- 2 and 6: the length of a board is not 8 × rings
+abbrev pub lengthWrong : ℕ → ℕ → Bool
+lengthWrong rings n = not (eqb n (8 * rings))
+
+-- 3: a value above 2
+unfoldable pub valueWrong : List ℕ → Bool
+valueWrong [] = false
+valueWrong (x ∷ b) = ltb 2 x || valueWrong b
+
+-- 4: a count outside 3 to 9, or a sum above the points
+abbrev pub countsWrong : ℕ → ℕ → ℕ → Bool
+countsWrong points m o = ltb m 3 || ltb 9 m || ltb o 3 || ltb 9 o || ltb points (m + o)
+
+-- 5: a rank not below the size
+abbrev pub rankWrong : ℕ → ℕ → ℕ → ℕ → Bool
+rankWrong points m o r = leb (size points m o) r
+
+-- what every call picks for rings and a board
+abbrev pub boardPicks : ℕ → List ℕ → List Pick
+boardPicks rings b =
+    pick wrongRings (ringsWrong rings)
+    ∷ pick wrongLength (lengthWrong rings (length b))
+    ∷ pick wrongValue (valueWrong b)
+    ∷ pick wrongCounts (countsWrong (8 * rings) (count 1 b) (count 2 b))
+    ∷ []
+
+-- what a call picks for rings, counts, a rank and a target of so many bytes
+abbrev pub rankPicks : ℕ → ℕ → ℕ → ℕ → ℕ → List Pick
+rankPicks rings m o r room =
+    pick wrongRings (ringsWrong rings)
+    ∷ pick wrongCounts (countsWrong (8 * rings) m o)
+    ∷ pick wrongTarget (lengthWrong rings room)
+    ∷ pick wrongRank (rankWrong (8 * rings) m o r)
+    ∷ []
