@@ -93,7 +93,8 @@ one-digit (suc (suc (suc x))) h = absurd (omega arith)
 pub board-position : (b : List ℕ) → Values b → boardOf (length b) (positionOf b) ≡ b
 unfolding positionOf valueAt
 board-position b v =
-    ext-getD 0 (boardOf (length b) (positionOf b)) b (length-board (length b) (positionOf b)) (λ p h. at p (subst (λ (n : ℕ). p < n) (length-board (length b) (positionOf b)) h))
+    let l = length-board (length b) (positionOf b) in
+    ext-getD 0 (boardOf (length b) (positionOf b)) b l (λ p h. at p (subst (λ (n : ℕ). p < n) l h))
   where
     at : (p : ℕ) → p < length b → getD (boardOf (length b) (positionOf b)) p 0 ≡ getD b p 0
     at p h =

@@ -53,7 +53,8 @@ returns-2 c =
     let b : List ℕ = s .args .board .now in
     let w = board-accepted x in
     let e : c .rank .result ≡ Rank·rank b =
-    c .rank .ensures ∙ ap (λ (p : Position). Rank·rank (boardOf (length b) p)) (c .before .before .position-of .ensures) ∙ ap Rank·rank (board-position b (w .values)) in
+    c .rank .ensures ∙ ap (λ (p : Position). Rank·rank (boardOf (length b) p)) (c .before .before .position-of .ensures)
+    ∙ ap Rank·rank (board-position b (w .values)) in
     ap (λ (r : ℕ). accepted (r ∷ [])) e
     ∙ answer-accepted (refusal (boardPicks (s .args .rings) b)) (Rank·rank b ∷ []) (sym (x .if1 .left) ∙ x .before .of-board .ensures)
 

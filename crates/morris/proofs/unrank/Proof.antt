@@ -33,7 +33,9 @@ of-rank-requires c κs = search needs
 
 returns : tie.Need-returns
 unfolding unrankCall unrankTarget
-returns c = (answer-refused _ _ _ (c .if1 .taken) (c .before .of-rank .ensures), target-kept _ _ _ _ (c .if1 .taken) (c .before .of-rank .ensures))
+returns c =
+    let e = c .before .of-rank .ensures in
+    (answer-refused _ _ _ (c .if1 .taken) e, target-kept _ _ _ _ (c .if1 .taken) e)
 
 unrank-requires : tie.Need-unrank-requires
 unrank-requires c κs =
@@ -60,7 +62,8 @@ returns-2 c =
     let new : List ℕ = Unrank·unrank (8 * a .rings) (a .mover) (a .opponent) (a .rank) in
     let u = rank-unrank (8 * a .rings) (a .mover) (a .opponent) (a .rank) (w .rank-low) in
     let z : 0 ≡ refusal (rankPicks (a .rings) (a .mover) (a .opponent) (a .rank) (length old)) = sym (x .if1 .left) ∙ x .before .of-rank .ensures in
-    let p : y .unrank .result ≡ positionOf new = y .unrank .ensures ∙ ap (λ (n : ℕ). positionOf (Unrank·unrank n (a .mover) (a .opponent) (a .rank))) (w .points) in
+    let p : y .unrank .result ≡ positionOf new =
+    y .unrank .ensures ∙ ap (λ (n : ℕ). positionOf (Unrank·unrank n (a .mover) (a .opponent) (a .rank))) (w .points) in
     let e : c .before .before .write-board .last .1 .0 ≡ new =
     c .before .before .write-board .ensures ∙ ap₂ boardOf (w .points ∙ sym (u .points)) p ∙ board-position new (u .values) in
     (answer-accepted _ _ z, e ∙ target-written _ new old z)

@@ -1,4 +1,4 @@
--- `sets::of_three` meets its contract: the mask has the three points as its members, and the count of the common part is the sum of their digits. Assumes nothing.
+-- `sets::of_three` meets its contract: the count of the part in common with the mask is the sum of three digits. Assumes nothing.
 use mathlib.Core.Path.{_≡_, ap, _∙_}
 use Prim.Native.Nat.{ℕ}
 use lib.Bits.{bitAnd}
@@ -22,7 +22,8 @@ returns : tie.Need-returns
 returns c =
     let x = c .before .before .before in
     let e : c .with3 .result ≡ with (with (with 0 (x .args .a)) (x .args .b)) (x .args .c) =
-    c .with3 .ensures ∙ ap (λ (m : ℕ). with m (x .args .c)) (c .before .with2 .ensures ∙ ap (λ (m : ℕ). with m (x .args .b)) (c .before .before .with .ensures)) in
+    c .with3 .ensures
+    ∙ ap (λ (m : ℕ). with m (x .args .c)) (c .before .with2 .ensures ∙ ap (λ (m : ℕ). with m (x .args .b)) (c .before .before .with .ensures)) in
     ap (λ (m : ℕ). ones (bitAnd (x .args .s) m)) e
     ∙ ones-three (x .args .s) (x .args .a) (x .args .b) (x .args .c) (x .pre .1 .0) (x .pre .1 .1) (x .pre .1 .2)
 

@@ -1,4 +1,4 @@
--- `board::position::set_of` meets its contract. The loop goes from the highest point down, and the invariant says that the set is that of the bytes passed. Assumes nothing.
+-- `board::position::set_of` meets its contract. The invariant: the set of the bytes passed, from the highest point down. Assumes nothing.
 use mathlib.Core.Path.{_≡_, sym, ap, subst, _∙_}
 use Prim.Native.Nat.{ℕ, _≤_, _-_, _^_, _<_}
 use native.Mathlib.Omega.{arith}
@@ -39,7 +39,8 @@ cast-s c = search needs
 
 add-s : tie.Need-add-s Inv-loop μ-loop
 add-s c =
-    omega (arith, small (c .before .before), digit-lt (eqb (getD (c .before .before .before .args .board .now) (c .before .before .loop .i - 1) 0) (c .before .before .before .args .v)))
+    let x = c .before .before in
+    omega (arith, small x, digit-lt (eqb (getD (x .before .args .board .now) (x .loop .i - 1) 0) (x .before .args .v)))
 
 loop-less : tie.Need-loop-less Inv-loop μ-loop
 loop-less c = omega arith
@@ -47,7 +48,8 @@ loop-less c = omega arith
 loop-again : tie.Need-loop-again Inv-loop μ-loop
 loop-again c =
     let x = c .before .before in
-    (omega arith, omega (arith, x .loop .inv .1, set-step (x .before .args .v) (x .loop .i) (x .before .args .board .now) (c .before .loop-test .taken) (x .loop .inv .0)))
+    let a = x .before .args in
+    (omega arith, omega (arith, x .loop .inv .1, set-step (a .v) (x .loop .i) (a .board .now) (c .before .loop-test .taken) (x .loop .inv .0)))
 
 returns : tie.Need-returns Inv-loop μ-loop
 returns c =

@@ -21,7 +21,8 @@ rows s = pickedRows table (boardPicks (s .args .rings) (s .args .board .now))
 rings-passed : (c : tie.Else1) → ringsWrong (c .before .before .before .args .rings) ≡ false
 rings-passed c = sym (c .before .rings-wrong .ensures) ∙ c .if1 .left
 
-length-passed : (c : tie.Else2) → lengthWrong (c .before .before .before .before .args .rings) (length (c .before .before .before .before .args .board .now)) ≡ false
+length-passed : (c : tie.Else2)
+    → lengthWrong (c .before .before .before .before .args .rings) (length (c .before .before .before .before .args .board .now)) ≡ false
 length-passed c = ap not (eq-eqb _ _ (c .if2 .left))
 
 value-passed : (c : tie.Else3) → valueWrong (c .before .before .before .before .before .before .args .board .now) ≡ false

@@ -22,10 +22,14 @@ rows s = pickedRows table (rankPicks (s .args .rings) (s .args .mover) (s .args 
 rings-passed : (c : tie.Else1) → ringsWrong (c .before .before .args .rings) ≡ false
 rings-passed c = sym (c .before .rings-wrong .ensures) ∙ c .if1 .left
 
-counts-passed : (c : tie.Else2) → countsWrong (8 * c .before .before .before .before .args .rings) (c .before .before .before .before .args .mover) (c .before .before .before .before .args .opponent) ≡ false
+counts-passed : (c : tie.Else2)
+    → countsWrong (8 * c .before .before .before .before .args .rings) (c .before .before .before .before .args .mover)
+    (c .before .before .before .before .args .opponent)
+    ≡ false
 counts-passed c = sym (c .before .counts-wrong .ensures) ∙ c .if2 .left
 
-target-passed : (c : tie.Else3) → lengthWrong (c .before .before .before .before .before .args .rings) (c .before .before .before .before .before .args .room) ≡ false
+target-passed : (c : tie.Else3)
+    → lengthWrong (c .before .before .before .before .before .args .rings) (c .before .before .before .before .before .args .room) ≡ false
 target-passed c = ap not (eq-eqb _ _ (c .if3 .left))
 
 rings-wrong-requires : tie.Need-rings-wrong-requires

@@ -34,7 +34,8 @@ loop-again : tie.Need-loop-again Inv-loop μ-loop
 loop-again c =
     let x = c .before .before in
     let b = x .before .args .board .now in
-    (omega arith, ap (λ (t : Bool). ltb 2 (getD b (x .loop .i - 1) 0) || t) (x .loop .inv .1) ∙ sym (value-step (x .loop .i) b (c .before .loop-test .taken) (x .loop .inv .0)))
+    let s = value-step (x .loop .i) b (c .before .loop-test .taken) (x .loop .inv .0) in
+    (omega arith, ap (λ (t : Bool). ltb 2 (getD b (x .loop .i - 1) 0) || t) (x .loop .inv .1) ∙ sym s)
 
 returns : tie.Need-returns Inv-loop μ-loop
 returns c =
