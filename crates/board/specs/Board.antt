@@ -1,7 +1,7 @@
 -- A board as bytes and as two sets (document 01, "The board"). Assumes nothing.
 use mathlib.Core.Bool.{Bool, true, false}
 use mathlib.Core.List.{List, [], _∷_}
-use Prim.Native.Nat.{ℕ, zero, suc, _+_, _*_, _^_, _≤_, _<_}
+use Prim.Native.Nat.{ℕ, suc, _+_, _*_, _^_, _≤_, _<_}
 use lib.Dec.{eqb}
 use Rattle.sets.specs.Sets.{bit, has}
 use Rattle.lists.specs.Lists.{values}

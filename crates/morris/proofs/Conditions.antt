@@ -1,5 +1,5 @@
 -- What the conditions say where they do not hold, and the step of the loop that looks for a wrong value. Assumes nothing.
-use mathlib.Core.Path.{_≡_, refl, ap, subst, _∙_}
+use mathlib.Core.Path.{_≡_, refl, sym, ap, subst, _∙_}
 use mathlib.Core.Bool.{Bool, true, false, _||_}
 use mathlib.Core.List.{List, [], _∷_}
 use Prim.Native.Nat.{ℕ, suc, _+_, _-_, _*_, _≤_, _<_}
@@ -7,12 +7,12 @@ use native.Mathlib.Omega.{arith}
 use lib.Dec.{T, eqb, ltb}
 use lib.ListN.{length, getD, drop}
 use lib.Seq.{drop-cons}
-use borrow.Author.Tests.{ltb-false, leb-false, eqb-true, not-false}
+use borrow.Author.Tests.{ltb-false, leb-false, le-leb, lt-leb, eqb-true, not-false}
 use Rattle.board.specs.Board.{Values, count}
 use Rattle.sizes.specs.Size.{size}
 use Rattle.morris.specs.Refusals.{table, pickedRows, refusal}
-use Rattle.morris.specs.Conditions.{boardPicks, rankPicks, ringsWrong, lengthWrong, valueWrong, countsWrong}
-use Rattle.morris.proofs.FirstRefusal.{passed}
+use Rattle.morris.specs.Conditions.{boardPicks, countsPicks, rankPicks, ringsWrong, lengthWrong, valueWrong, countsWrong, rankWrong}
+use Rattle.morris.proofs.FirstRefusal.{meets, passes, passed, first-kept}
 
 or-left : (a b : Bool) → (a || b) ≡ false → a ≡ false
 or-left false b e = refl
@@ -89,22 +89,50 @@ accepted-board rings b e =
       counted = counts-right (8 * rings) (count 1 b) (count 2 b) (p .1 .1 .1 .0);
     }
 
--- accepted counts, rank and target
-pub record AcceptedRank (rings m o r room : ℕ) : Type 0 where
+-- accepted counts and target
+pub record AcceptedCounts (rings m o room : ℕ) : Type 0 where
   pub rings-low : 1 ≤ rings
   pub rings-high : rings ≤ 3
   pub points : room ≡ 8 * rings
   pub counted : Counted (8 * rings) m o
-  pub rank-low : r < size (8 * rings) m o
 
-pub accepted-rank : (rings m o r room : ℕ) → refusal (rankPicks rings m o r room) ≡ 0 → AcceptedRank rings m o r room
-accepted-rank rings m o r room e =
-    let p = passed (pickedRows table (rankPicks rings m o r room)) refl e in
+pub accepted-counts : (rings m o room : ℕ) → refusal (countsPicks rings m o room) ≡ 0 → AcceptedCounts rings m o room
+accepted-counts rings m o room e =
+    let p = passed (pickedRows table (countsPicks rings m o room)) refl e in
     let q = rings-right rings (p .0) in
     record {
       rings-low = q .0;
       rings-high = q .1;
       points = length-right rings room (p .1 .1 .0);
       counted = counts-right (8 * rings) m o (p .1 .0);
+    }
+
+-- and an accepted rank besides
+pub record AcceptedRank (rings m o r room : ℕ) : Type 0 where
+  pub counts : AcceptedCounts rings m o room
+  pub rank-low : r < size (8 * rings) m o
+
+pub accepted-rank : (rings m o r room : ℕ) → refusal (rankPicks rings m o r room) ≡ 0 → AcceptedRank rings m o r room
+accepted-rank rings m o r room e =
+    let p = passed (pickedRows table (rankPicks rings m o r room)) refl e in
+    record {
+      counts = accepted-counts rings m o room (sym (passes (pickedRows table (countsPicks rings m o room)) (p .0, (p .1 .0, (p .1 .1 .0, tt)))));
       rank-low = leb-false (size (8 * rings) m o) r (p .1 .1 .1 .0);
     }
+
+-- refused counts or target are refused whatever the rank
+pub counts-refused : (rings m o r room n : ℕ) → (n ≡ 0 → ⊥) → n ≡ refusal (countsPicks rings m o room) → n ≡ refusal (rankPicks rings m o r room)
+counts-refused rings m o r room n z e =
+    first-kept (pickedRows table (countsPicks rings m o room)) (record { holds = rankWrong (8 * rings) m o r; number = 5 } ∷ []) n z e
+
+-- where counts and target are accepted, the rank alone decides
+module _ (rings m o r room : ℕ) (e : 0 ≡ refusal (countsPicks rings m o room)) where
+  pub rank-refused : size (8 * rings) m o ≤ r → 5 ≡ refusal (rankPicks rings m o r room)
+  rank-refused h =
+      let p = passed (pickedRows table (countsPicks rings m o room)) refl (sym e) in
+      meets (pickedRows table (rankPicks rings m o r room)) 3 (p .0, (p .1 .0, (p .1 .1 .0, tt))) (le-leb (size (8 * rings) m o) r h)
+
+  pub rank-passed : r < size (8 * rings) m o → 0 ≡ refusal (rankPicks rings m o r room)
+  rank-passed h =
+      let p = passed (pickedRows table (countsPicks rings m o room)) refl (sym e) in
+      passes (pickedRows table (rankPicks rings m o r room)) (p .0, (p .1 .0, (p .1 .1 .0, (lt-leb (size (8 * rings) m o) r h, tt))))

@@ -1,7 +1,7 @@
 -- The first refusal among picked rows: the row at which a call is turned back, and what an accepted call has passed. Assumes nothing.
-use mathlib.Core.Path.{_≡_, refl}
+use mathlib.Core.Path.{_≡_, refl, _∙_}
 use mathlib.Core.Bool.{Bool, true, false, false≢true}
-use mathlib.Core.List.{List, [], _∷_}
+use mathlib.Core.List.{List, [], _∷_, _++_}
 use Prim.Native.Nat.{ℕ, zero, suc}
 use native.Mathlib.Omega.{arith}
 use lib.Dec.{ltb}
@@ -51,3 +51,12 @@ passed (r ∷ rs) n e = go (r .holds) refl (ltb 0 (r .number)) refl n e (λ a b.
     go true p false q a b rest = absurd (false≢true a)
     go false p true q a b rest = (p, rest a b)
     go false p false q a b rest = absurd (false≢true a)
+
+-- a refusal among some rows is met whatever rows come after
+pub first-kept : (rs ss : List Picked) (n : ℕ) → (n ≡ 0 → ⊥) → n ≡ first rs → n ≡ first (rs ++ ss)
+first-kept [] ss n z e = absurd (z e)
+first-kept (r ∷ rs) ss n z e = go (r .holds) refl (first-kept rs ss n z)
+  where
+    go : (h : Bool) → r .holds ≡ h → (n ≡ first rs → n ≡ first (rs ++ ss)) → n ≡ first (r ∷ rs ++ ss)
+    go true p rest = e ∙ rw (p, first)
+    go false p rest = rw (p, first) (rest (rw (p, first) at e))

@@ -69,10 +69,10 @@ unrank-then-rank rings m o r old e =
     let b = unrank (8 * rings) m o r in
     let z : 0 ≡ refusal (boardPicks rings b) =
     passes (pickedRows table (boardPicks rings b)) (
-      rings-fine rings (w .rings-low) (w .rings-high),
+      rings-fine rings (w .counts .rings-low) (w .counts .rings-high),
       (
         length-fine rings (length b) (u .points),
-        (values-fine b (u .values), (rw (u .mover, u .opponent) (counts-fine (8 * rings) m o (w .counted)), tt)),
+        (values-fine b (u .values), (rw (u .mover, u .opponent) (counts-fine (8 * rings) m o (w .counts .counted)), tt)),
       ),
     ) in
     let t : target (refusal (rankPicks rings m o r (length old))) b old ≡ b = sym (target-written _ b old (sym n)) in

@@ -38,11 +38,11 @@ boardPicks rings b =
     ∷ pick wrongCounts (countsWrong (8 * rings) (count 1 b) (count 2 b))
     ∷ []
 
--- what a call picks for rings, counts, a rank and a target of so many bytes
+-- what a call picks for rings, counts and a target of so many bytes
+abbrev pub countsPicks : ℕ → ℕ → ℕ → ℕ → List Pick
+countsPicks rings m o room =
+    pick wrongRings (ringsWrong rings) ∷ pick wrongCounts (countsWrong (8 * rings) m o) ∷ pick wrongTarget (lengthWrong rings room) ∷ []
+
+-- and for a rank besides
 abbrev pub rankPicks : ℕ → ℕ → ℕ → ℕ → ℕ → List Pick
-rankPicks rings m o r room =
-    pick wrongRings (ringsWrong rings)
-    ∷ pick wrongCounts (countsWrong (8 * rings) m o)
-    ∷ pick wrongTarget (lengthWrong rings room)
-    ∷ pick wrongRank (rankWrong (8 * rings) m o r)
-    ∷ []
+rankPicks rings m o r room = pick wrongRank (rankWrong (8 * rings) m o r) ∷ countsPicks rings m o room

@@ -38,10 +38,14 @@ pub fn unrank(rings: u8, mover: u8, opponent: u8, rank: u64, target: &mut [u8]) 
     ensures answer { λ r. ⌜ unranked r ≡ unrankCall rings mover opponent rank (now (target .entry)) ⌝ }
     ensures target { λ _. ⌜ now (target .exit) ≡ unrankTarget rings mover opponent rank (now (target .entry)) ⌝ }
 {
-    let binomials = sizes::binomial_table();
-    let refusal = refusals::of_rank(&binomials, rings, mover, opponent, rank, target.len());
+    let refusal = refusals::of_counts(rings, mover, opponent, target.len());
     if refusal != 0 {
         return Unranked::Refused(refusal);
+    }
+    let binomials = sizes::binomial_table();
+    let size = sizes::size(&binomials, target.len(), mover as usize, opponent as usize);
+    if size as u64 <= rank {
+        return Unranked::Refused(refusals::RANK);
     }
     let position = ranking::unrank(
         &binomials,

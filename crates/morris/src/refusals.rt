@@ -4,8 +4,7 @@ ghost use Prim.Native.Nat.{_≤_};
 ghost use lib.ListN.{length};
 ghost use Rattle.board.specs.Board.{count};
 ghost use Rattle.morris.specs.Refusals.{refusal};
-ghost use Rattle.morris.specs.Conditions.{ringsWrong, valueWrong, countsWrong, boardPicks, rankPicks};
-ghost use Rattle.sizes.specs.Binomial.{BinomialTable};
+ghost use Rattle.morris.specs.Conditions.{ringsWrong, valueWrong, countsWrong, boardPicks, countsPicks};
 
 // The refusal numbers of document 01.
 const RINGS: u8 = 1;
@@ -16,7 +15,7 @@ const BOARD_VALUE: u8 = 3;
 
 const COUNTS: u8 = 4;
 
-const RANK: u8 = 5;
+pub const RANK: u8 = 5;
 
 const TARGET_LENGTH: u8 = 6;
 
@@ -79,17 +78,9 @@ pub fn of_board(rings: u8, board: &[u8]) -> u8
     0
 }
 
-// The first refusal that rings, counts, a rank and a target of so many bytes meet, or 0.
-pub fn of_rank(
-    binomials: &[u32; 625],
-    rings: u8,
-    mover: u8,
-    opponent: u8,
-    rank: u64,
-    room: usize,
-) -> u8
-    requires { ⌜ BinomialTable (now binomials) ⌝ }
-    ensures { λ r. ⌜ r ≡ refusal (rankPicks rings mover opponent rank room) ⌝ }
+// The first refusal that rings, counts and a target of so many bytes meet, or 0.
+pub fn of_counts(rings: u8, mover: u8, opponent: u8, room: usize) -> u8
+    ensures { λ r. ⌜ r ≡ refusal (countsPicks rings mover opponent room) ⌝ }
 {
     if rings_wrong(rings) {
         return RINGS;
@@ -100,10 +91,6 @@ pub fn of_rank(
     }
     if room != points {
         return TARGET_LENGTH;
-    }
-    let size = sizes::size(binomials, points, mover as usize, opponent as usize);
-    if size as u64 <= rank {
-        return RANK;
     }
     0
 }

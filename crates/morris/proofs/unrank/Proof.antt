@@ -1,7 +1,7 @@
--- `morris::unrank` meets its contract: the first refusal of the rank's picks, or the board of the rank. Assumes nothing.
-use mathlib.Core.Path.{_≡_, sym, ap, ap₂, subst, _∙_}
-use mathlib.Core.List.{List}
-use Prim.Native.Nat.{ℕ, _*_, _<_}
+-- `morris::unrank` meets its contract: a refusal of the counts' picks, then of the rank, or the board of the rank. Assumes nothing.
+use mathlib.Core.Path.{_≡_, sym, ap, ap₂, _∙_}
+use mathlib.Core.List.{List, []}
+use Prim.Native.Nat.{ℕ, _*_, _≤_, _<_}
 use native.Mathlib.Omega.{arith}
 use lib.ListN.{length}
 use borrow.Author.Needs.{needs}
@@ -11,71 +11,113 @@ use Rattle.sizes.specs.Size.{size}
 use Rattle.ranking.specs.Unrank.{unrank as Unrank·unrank}
 use Rattle.ranking.proofs.Inverse.{rank-unrank}
 use Rattle.morris.specs.Refusals.{refusal}
-use Rattle.morris.specs.Conditions.{rankPicks}
+use Rattle.morris.specs.Conditions.{countsPicks, rankPicks}
+use Rattle.morris.specs.Answers.{accepted, refused}
 use Rattle.morris.specs.UnrankCall.{unrankCall, unrankTarget}
-use Rattle.morris.proofs.Conditions.{AcceptedRank, accepted-rank}
+use Rattle.morris.proofs.Conditions.{AcceptedCounts, accepted-counts, counts-refused, rank-refused, rank-passed}
 use Rattle.morris.proofs.Answering.{answer-refused, answer-accepted, target-kept, target-written}
 use Rattle.morris.proofs.unrank.Statement.{statement}
 use Rattle.morris.proofs.unrank.Tie as tie
 
--- past the refusals, counts, rank and target are accepted
-rank-accepted : (c : tie.Else1)
-    → AcceptedRank (c .before .before .before .before .before .args .rings) (c .before .before .before .before .before .args .mover)
-    (c .before .before .before .before .before .args .opponent) (c .before .before .before .before .before .args .rank)
-    (length (c .before .before .before .before .before .args .target .now))
-rank-accepted c = accepted-rank _ _ _ _ _ (sym (c .before .of-rank .ensures) ∙ c .if1 .left)
+-- past the first refusals, counts and target are accepted
+passed-counts : (c : tie.Else1)
+    → 0 ≡ refusal (countsPicks (c .before .before .before .args .rings) (c .before .before .before .args .mover)
+    (c .before .before .before .args .opponent) (length (c .before .before .before .args .target .now)))
+passed-counts c = sym (c .if1 .left) ∙ c .before .of-counts .ensures
+
+counts-accepted : (c : tie.Else1)
+    → AcceptedCounts (c .before .before .before .args .rings) (c .before .before .before .args .mover)
+    (c .before .before .before .args .opponent) (length (c .before .before .before .args .target .now))
+counts-accepted c = accepted-counts _ _ _ _ (sym (passed-counts c))
+
+-- the size is that of the table on 8 × rings points
+table-size : (c : tie.After-size)
+    → c .size .result ≡ size (8 * c .before .before .before .before .before .before .args .rings)
+    (c .before .before .before .before .before .before .args .mover) (c .before .before .before .before .before .before .args .opponent)
+table-size c =
+    let x = c .before .before .before in
+    let a = x .before .before .before .args in
+    c .size .ensures ∙ ap (λ (n : ℕ). size n (a .mover) (a .opponent)) (counts-accepted x .points)
+
+-- the two ways out: turned back with a number, and written
+module _ (rings m o r : ℕ) (old : List ℕ) where
+  turned-back : (n : ℕ) → (n ≡ 0 → ⊥) → n ≡ refusal (rankPicks rings m o r (length old))
+      → (refused n ≡ unrankCall rings m o r old) × (old ≡ unrankTarget rings m o r old)
+  unfolding unrankCall unrankTarget
+  turned-back n z e = (answer-refused n (refusal (rankPicks rings m o r (length old))) [] z e, target-kept n _ (Unrank·unrank (8 * rings) m o r) old z e)
+
+  written : (new : List ℕ) → 0 ≡ refusal (rankPicks rings m o r (length old)) → new ≡ Unrank·unrank (8 * rings) m o r
+      → (accepted [] ≡ unrankCall rings m o r old) × (new ≡ unrankTarget rings m o r old)
+  unfolding unrankCall unrankTarget
+  written new z e = (answer-accepted (refusal (rankPicks rings m o r (length old))) [] z, e ∙ target-written _ (Unrank·unrank (8 * rings) m o r) old z)
+
+of-counts-requires : tie.Need-of-counts-requires
+of-counts-requires c κs = search needs
+
+returns : tie.Need-returns
+returns c =
+    let a = c .before .before .before .args in
+    let e = counts-refused (a .rings) (a .mover) (a .opponent) (a .rank) (length (a .target .now)) (c .before .of-counts .result) (c .if1 .taken) (c .before .of-counts .ensures) in
+    turned-back (a .rings) (a .mover) (a .opponent) (a .rank) (a .target .now) (c .before .of-counts .result) (c .if1 .taken) e
 
 binomial-table-requires : tie.Need-binomial-table-requires
 binomial-table-requires c κs = search needs
 
-of-rank-requires : tie.Need-of-rank-requires
-of-rank-requires c κs = search needs
+size-requires : tie.Need-size-requires
+size-requires c κs =
+    let w = counts-accepted (c .before .before) in
+    (c .before .binomial-table .ensures, omega (arith, w .points, w .rings-high, w .counted .mover-high, w .counted .opponent-high))
 
-returns : tie.Need-returns
-unfolding unrankCall unrankTarget
-returns c =
-    let e = c .before .of-rank .ensures in
-    (answer-refused _ _ _ (c .if1 .taken) e, target-kept _ _ _ _ (c .if1 .taken) e)
+returns-2 : tie.Need-returns-2
+returns-2 c =
+    let x = c .before .before .before .before in
+    let a = x .before .before .before .args in
+    let h : size (8 * a .rings) (a .mover) (a .opponent) ≤ a .rank = omega (arith, table-size (c .before)) in
+    turned-back (a .rings) (a .mover) (a .opponent) (a .rank) (a .target .now) 5 (λ e. absurd (omega arith))
+    (rank-refused (a .rings) (a .mover) (a .opponent) (a .rank) (length (a .target .now)) (passed-counts x) h)
 
 unrank-requires : tie.Need-unrank-requires
 unrank-requires c κs =
-    let a = c .before .before .before .before .before .before .args in
-    let w = rank-accepted (c .before) in (
-      c .before .before .before .before .binomial-table .ensures,
-      (omega (arith, w .points, w .rings-high), subst (λ (n : ℕ). a .rank < size n (a .mover) (a .opponent)) (sym (w .points)) (w .rank-low)),
-    )
+    let y = c .before in
+    let x = y .before .before .before .before in
+    let w = counts-accepted x in
+    (y .before .before .before .binomial-table .ensures, (omega (arith, w .points, w .rings-high), omega (arith, y .before .size .ensures)))
 
 write-board-requires : tie.Need-write-board-requires
-write-board-requires c κs = let w = rank-accepted (c .before .before .before) in omega (arith, w .points, w .rings-high)
+write-board-requires c κs =
+    let w = counts-accepted (c .before .before .before .before .before .before .before) in
+    omega (arith, w .points, w .rings-high)
 
 same-length : tie.Need-same-length
 same-length c = search needs
 
-returns-2 : tie.Need-returns-2
-unfolding unrankCall unrankTarget
-returns-2 c =
-    let y = c .before .before .before .before in
-    let x = y .before .before in
-    let a = x .before .before .before .before .before .args in
-    let old : List ℕ = a .target .now in
-    let w = rank-accepted x in
+returns-3 : tie.Need-returns-3
+returns-3 c =
+    let u = c .before .before .before .before in
+    let y = u .before .before in
+    let x = y .before .before .before .before in
+    let a = x .before .before .before .args in
+    let w = counts-accepted x in
+    let low : a .rank < size (8 * a .rings) (a .mover) (a .opponent) = omega (arith, table-size (y .before)) in
     let new : List ℕ = Unrank·unrank (8 * a .rings) (a .mover) (a .opponent) (a .rank) in
-    let u = rank-unrank (8 * a .rings) (a .mover) (a .opponent) (a .rank) (w .rank-low) in
-    let z : 0 ≡ refusal (rankPicks (a .rings) (a .mover) (a .opponent) (a .rank) (length old)) = sym (x .if1 .left) ∙ x .before .of-rank .ensures in
-    let p : y .unrank .result ≡ positionOf new =
-    y .unrank .ensures ∙ ap (λ (n : ℕ). positionOf (Unrank·unrank n (a .mover) (a .opponent) (a .rank))) (w .points) in
+    let v = rank-unrank (8 * a .rings) (a .mover) (a .opponent) (a .rank) low in
+    let p : u .unrank .result ≡ positionOf new =
+    u .unrank .ensures ∙ ap (λ (n : ℕ). positionOf (Unrank·unrank n (a .mover) (a .opponent) (a .rank))) (w .points) in
     let e : c .before .before .write-board .last .1 .0 ≡ new =
-    c .before .before .write-board .ensures ∙ ap₂ boardOf (w .points ∙ sym (u .points)) p ∙ board-position new (u .values) in
-    (answer-accepted _ _ z, e ∙ target-written _ new old z)
+    c .before .before .write-board .ensures ∙ ap₂ boardOf (w .points ∙ sym (v .points)) p ∙ board-position new (v .values) in
+    written (a .rings) (a .mover) (a .opponent) (a .rank) (a .target .now) (c .before .before .write-board .last .1 .0)
+    (rank-passed (a .rings) (a .mover) (a .opponent) (a .rank) (length (a .target .now)) (passed-counts x) low) e
 
 pub unrank-spec : {M : Type 1} → statement M
 unrank-spec =
     tie.close
     (tie.spec
-    binomial-table-requires
-    of-rank-requires
+    of-counts-requires
     returns
+    binomial-table-requires
+    size-requires
+    returns-2
     unrank-requires
     write-board-requires
     same-length
-    returns-2)
+    returns-3)
