@@ -1,24 +1,14 @@
 -- Boards of so many points and their positions are one-to-one, and a position's sets count its stones: with `board-position`, the two ways
 -- between bytes and sets undo each other. Assumes nothing.
 use mathlib.Core.Path.{_≡_, sym, ap, _∙_, subst}
-use Prim.Native.Nat.{ℕ, zero, suc, _/_, _^_, _≤_, _<_}
-use native.Mathlib.Nat.{pow-suc}
+use Prim.Native.Nat.{ℕ, _^_, _≤_, _<_}
 use native.Mathlib.Omega.{arith}
 use lib.Dec.{eqb}
 use Rattle.sets.specs.Sets.{bit, members}
-use Rattle.sets.proofs.Laws.{bit-zero, bit-suc}
+use Rattle.sets.proofs.Laws.{same-set}
 use Rattle.board.specs.declared.position.Position.{Position}
 use Rattle.board.specs.Board.{count, digit, setOf, positionOf, valueAt, boardOf, OnBoard}
 use Rattle.board.proofs.Sides.{set-lt, bit-set, members-count, length-board, board-at, said}
-
--- sets below 2 ^ n with the same members are the same
-same-set : (n s t : ℕ) → s < 2 ^ n → t < 2 ^ n → ((p : ℕ) → p < n → bit s p ≡ bit t p) → s ≡ t
-same-set zero s t hs ht h = omega arith
-same-set (suc n) s t hs ht h =
-    let e : s / 2 ≡ t / 2 =
-    same-set n (s / 2) (t / 2) (omega (arith, pow-suc 2 n)) (omega (arith, pow-suc 2 n))
-    (λ p l. sym (bit-suc s p) ∙ h (suc p) (omega arith) ∙ bit-suc t p) in
-    omega (arith, e, bit-zero s, bit-zero t, h 0 (omega arith))
 
 module _ (points : ℕ) (p : Position) (w : OnBoard points p) where
   -- the set of the board's points that hold v is a side, if its digits say so

@@ -18,7 +18,8 @@ use Rattle.sizes.proofs.Multinomials.{size-over}
 range-split : (a d n : ℕ) → range a (d + n) ≡ range a d ++ range (a + d) n
 range-split a zero n = ap₂ range (sym (add-zero a)) (zero-add n)
 range-split a (suc d) n =
-    ap (range a) (suc-add d n) ∙ ap (λ (l : List ℕ). a ∷ l) (range-split (suc a) d n ∙ ap (λ (k : ℕ). range (suc a) d ++ range k n) (suc-add a d ∙ sym (add-suc a d)))
+    let e : suc a + d ≡ a + suc d = suc-add a d ∙ sym (add-suc a d) in
+    ap (range a) (suc-add d n) ∙ ap (λ (l : List ℕ). a ∷ l) (range-split (suc a) d n ∙ ap (λ (k : ℕ). range (suc a) d ++ range k n) e)
 
 module _ {A : Type 0} (f : A → Bool) where
   keep-append : (xs ys : List A) → keep f (xs ++ ys) ≡ keep f xs ++ keep f ys

@@ -179,7 +179,8 @@ unrank-rank b v =
     ap reverse e ∙ reverse-reverse b
 
 -- so each rank has one board only
-pub rank-one : (b c : List ℕ) → Values b → Values c → length b ≡ length c → count 1 b ≡ count 1 c → count 2 b ≡ count 2 c → rank b ≡ rank c → b ≡ c
+pub rank-one : (b c : List ℕ) → Values b → Values c → length b ≡ length c → count 1 b ≡ count 1 c → count 2 b ≡ count 2 c
+    → rank b ≡ rank c → b ≡ c
 rank-one b c v w n m o r = sym (unrank-rank b v) ∙ rw (n, m, o, r) (unrank-rank c w)
 
 pub unrank-one : (n m o r : ℕ) (b : List ℕ) → BoardOf n m o r b → b ≡ unrank n m o r

@@ -85,46 +85,55 @@ bit-sub-same s (suc p) h =
 sub-add : (s p : ℕ) → bit s p ≡ 1 → s - 2 ^ p + 2 ^ p ≡ s
 sub-add s p h = omega (arith, bit-le s p h)
 
+-- sets below 2 ^ n with the same members are the same
+pub same-set : (n s t : ℕ) → s < 2 ^ n → t < 2 ^ n → ((p : ℕ) → p < n → bit s p ≡ bit t p) → s ≡ t
+same-set zero s t hs ht h = omega arith
+same-set (suc n) s t hs ht h =
+    let e : s / 2 ≡ t / 2 =
+    same-set n (s / 2) (t / 2) (omega (arith, pow-suc 2 n)) (omega (arith, pow-suc 2 n))
+    (λ p l. sym (bit-suc s p) ∙ h (suc p) (omega arith) ∙ bit-suc t p) in
+    omega (arith, e, bit-zero s, bit-zero t, h 0 (omega arith))
+
 -- with and without, by cases on the digit
-pub with-new : (s p : ℕ) → bit s p ≡ 0 → with s p ≡ s + 2 ^ p
-with-new s p h = rw h (omega arith)
+pub with-absent : (s p : ℕ) → bit s p ≡ 0 → with s p ≡ s + 2 ^ p
+with-absent s p h = rw h (omega arith)
 
-pub with-old : (s p : ℕ) → bit s p ≡ 1 → with s p ≡ s
-with-old s p h = rw h (omega arith)
+pub with-member : (s p : ℕ) → bit s p ≡ 1 → with s p ≡ s
+with-member s p h = rw h (omega arith)
 
-pub without-new : (s p : ℕ) → bit s p ≡ 0 → without s p ≡ s
-without-new s p h = rw h (omega arith)
+pub without-absent : (s p : ℕ) → bit s p ≡ 0 → without s p ≡ s
+without-absent s p h = rw h (omega arith)
 
-pub without-old : (s p : ℕ) → bit s p ≡ 1 → without s p ≡ s - 2 ^ p
-without-old s p h = rw h (omega arith)
+pub without-member : (s p : ℕ) → bit s p ≡ 1 → without s p ≡ s - 2 ^ p
+without-member s p h = rw h (omega arith)
 
 pub bit-with-same : (s p : ℕ) → bit (with s p) p ≡ 1
 bit-with-same s p =
-    ⊎-elim (λ h. ap (λ (x : ℕ). bit x p) (with-new s p h) ∙ bit-add-same s p h)
-    (λ h. ap (λ (x : ℕ). bit x p) (with-old s p h) ∙ h) (bit-cases s p)
+    ⊎-elim (λ h. ap (λ (x : ℕ). bit x p) (with-absent s p h) ∙ bit-add-same s p h)
+    (λ h. ap (λ (x : ℕ). bit x p) (with-member s p h) ∙ h) (bit-cases s p)
 
 pub bit-with-other : (s p q : ℕ) → (q ≡ p → ⊥) → bit (with s p) q ≡ bit s q
 bit-with-other s p q n =
-    ⊎-elim (λ h. ap (λ (x : ℕ). bit x q) (with-new s p h) ∙ bit-add-other s p q h n)
-    (λ h. ap (λ (x : ℕ). bit x q) (with-old s p h)) (bit-cases s p)
+    ⊎-elim (λ h. ap (λ (x : ℕ). bit x q) (with-absent s p h) ∙ bit-add-other s p q h n)
+    (λ h. ap (λ (x : ℕ). bit x q) (with-member s p h)) (bit-cases s p)
 
 pub bit-without-same : (s p : ℕ) → bit (without s p) p ≡ 0
 bit-without-same s p =
-    ⊎-elim (λ h. ap (λ (x : ℕ). bit x p) (without-new s p h) ∙ h)
-    (λ h. ap (λ (x : ℕ). bit x p) (without-old s p h) ∙ bit-sub-same s p h) (bit-cases s p)
+    ⊎-elim (λ h. ap (λ (x : ℕ). bit x p) (without-absent s p h) ∙ h)
+    (λ h. ap (λ (x : ℕ). bit x p) (without-member s p h) ∙ bit-sub-same s p h) (bit-cases s p)
 
 pub bit-without-other : (s p q : ℕ) → (q ≡ p → ⊥) → bit (without s p) q ≡ bit s q
 bit-without-other s p q n =
-    ⊎-elim (λ h. ap (λ (x : ℕ). bit x q) (without-new s p h))
-    (λ h. ap (λ (x : ℕ). bit x q) (without-old s p h) ∙ sym (bit-add-other (s - 2 ^ p) p q (bit-sub-same s p h) n)
+    ⊎-elim (λ h. ap (λ (x : ℕ). bit x q) (without-absent s p h))
+    (λ h. ap (λ (x : ℕ). bit x q) (without-member s p h) ∙ sym (bit-add-other (s - 2 ^ p) p q (bit-sub-same s p h) n)
     ∙ ap (λ (x : ℕ). bit x q) (sub-add s p h)) (bit-cases s p)
 
 pub ones-with : (s p : ℕ) → bit s p ≡ 0 → ones (with s p) ≡ suc (ones s)
-ones-with s p h = ap ones (with-new s p h) ∙ ones-add s p h
+ones-with s p h = ap ones (with-absent s p h) ∙ ones-add s p h
 
 pub ones-without : (s p : ℕ) → bit s p ≡ 1 → suc (ones (without s p)) ≡ ones s
 ones-without s p h =
-    ap (λ (x : ℕ). suc (ones x)) (without-old s p h) ∙ sym (ones-add (s - 2 ^ p) p (bit-sub-same s p h)) ∙ ap ones (sub-add s p h)
+    ap (λ (x : ℕ). suc (ones x)) (without-member s p h) ∙ sym (ones-add (s - 2 ^ p) p (bit-sub-same s p h)) ∙ ap ones (sub-add s p h)
 
 -- the code's masks
 pub and-bit : (s p : ℕ) → bitAnd s (2 ^ p) ≡ bit s p * 2 ^ p
@@ -136,9 +145,9 @@ pub or-bit : (s p : ℕ) → bitOr s (2 ^ p) ≡ with s p
 or-bit s p =
     ⊎-elim
     (λ h. let a : bitAnd s (2 ^ p) ≡ 0 = and-bit s p ∙ ap (λ (x : ℕ). x * 2 ^ p) h ∙ zero-mul (2 ^ p) in
-    omega (arith, with-new s p h, or-add-and s (2 ^ p)))
+    omega (arith, with-absent s p h, or-add-and s (2 ^ p)))
     (λ h. let a : bitAnd s (2 ^ p) ≡ 2 ^ p = and-bit s p ∙ ap (λ (x : ℕ). x * 2 ^ p) h ∙ one-mul (2 ^ p) in
-    omega (arith, with-old s p h, or-add-and s (2 ^ p)))
+    omega (arith, with-member s p h, or-add-and s (2 ^ p)))
     (bit-cases s p)
 
 pub shl-one : (p : ℕ) → p < 32 → 1 * 2 ^ p % 2 ^ 32 ≡ 2 ^ p
@@ -148,9 +157,9 @@ pub with-lt : (k s p : ℕ) → s < 2 ^ k → p < k → with s p < 2 ^ k
 with-lt k s p hs hp = subst (λ (x : ℕ). x < 2 ^ k) (or-bit s p) (or-lt k s (2 ^ p) hs (pow-lt hp))
 
 -- the count of the digits is the number of members
-top : (b n : ℕ) → b < 2 → ones b ≡ b
+ones-digit : (b : ℕ) → b < 2 → ones b ≡ b
 unfolding ones
-top b n h = ⊎-elim (λ e. rw e refl) (λ e. rw e refl) (two b h)
+ones-digit b h = ⊎-elim (λ e. rw e refl) (λ e. rw e refl) (two b h)
 
 pub members-ones : (s n : ℕ) → members s n ≡ ones (s % 2 ^ n)
 unfolding members ones
@@ -158,7 +167,7 @@ members-ones s zero = rw (mod-one s) refl
 members-ones s (suc n) =
     let e : s % 2 ^ suc n ≡ bit s n * 2 ^ n + s % 2 ^ n = ap (λ (k : ℕ). s % 2 ^ k) (sym (one-add n)) ∙ mod-pow-add s 1 n in
     let d : ones (s % 2 ^ suc n) ≡ ones (bit s n) + ones (s % 2 ^ n) = ap ones e ∙ ones-cat n (bit s n) (s % 2 ^ n) (mod-lt s (pow-pos n)) in
-    omega (arith, members-ones s n, d, top (bit s n) n (bit-lt s n))
+    omega (arith, members-ones s n, d, ones-digit (bit s n) (bit-lt s n))
 
 pub members-le : (s n : ℕ) → members s n ≤ n
 unfolding members
@@ -206,7 +215,7 @@ ones-and-add s m (suc p) h =
     omega (arith, a, b, ones-and-step s m, bit-suc s p)
 
 pub ones-and-with : (s m p : ℕ) → bit m p ≡ 0 → ones (bitAnd s (with m p)) ≡ ones (bitAnd s m) + bit s p
-ones-and-with s m p h = ap (λ (x : ℕ). ones (bitAnd s x)) (with-new m p h) ∙ ones-and-add s m p h
+ones-and-with s m p h = ap (λ (x : ℕ). ones (bitAnd s x)) (with-absent m p h) ∙ ones-and-add s m p h
 
 -- the mask of three different points
 pub bit-empty : (p : ℕ) → bit 0 p ≡ 0
