@@ -1,3 +1,4 @@
 pub mod Geometry
 pub mod Sides
+pub mod Counts
 pub mod OneToOne

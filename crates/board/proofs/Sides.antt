@@ -42,6 +42,11 @@ pub set-small : (v i : ℕ) (b : List ℕ) → length b ≤ 24 → setOf v (drop
 set-small v i b h =
     lt-of-lt-of-le (set-lt v (drop i b)) (pow-mono {i = length (drop i b)} {j = 24} (omega (arith, length-drop i b)))
 
+-- no points at all
+pub set-none : (v : ℕ) → setOf v [] ≡ 0
+unfolding setOf
+set-none v = refl
+
 -- one point more, from the highest down
 pub set-step : (v i : ℕ) (b : List ℕ) → 0 < i → i ≤ length b
     → setOf v (drop (i - 1) b) ≡ digit (eqb (getD b (i - 1) 0) v) + 2 * setOf v (drop i b)
@@ -72,6 +77,11 @@ ones-set v (x ∷ b) =
 pub members-count : (v : ℕ) (b : List ℕ) → length b ≤ 24 → members (setOf v b) 32 ≡ count v b
 members-count v b h =
     members-all (setOf v b) 32 (lt-of-lt-of-le (set-lt v b) (pow-mono {i = length b} {j = 32} (omega arith))) ∙ ones-set v b
+
+-- a board's position is its two sets
+pub position-sides : (b : List ℕ) → positionOf b ≡ record { mover = setOf 1 b; opponent = setOf 2 b }
+unfolding positionOf
+position-sides b = refl
 
 -- the board of a position
 pub length-board : (points : ℕ) (p : Position) → length (boardOf points p) ≡ points

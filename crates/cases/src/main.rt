@@ -146,11 +146,39 @@ fn three_rings() {
     unrank(3, 8, 8, 9465511770, &mut [7; 24]);
 }
 
+// How many entries a tablebase of largest count k has.
+fn length(rings: u8, k: u8)
+    requires { ⌜ (rings ≤ 3) × (3 ≤ k) × (k ≤ 9) ⌝ }
+{
+    text(b"length");
+    number(rings as u64);
+    number(k as u64);
+    text(b":");
+    let binomials = sizes::binomial_table();
+    number(layout::tablebase_length(&binomials, 8 * rings as usize, k as usize) as u64);
+    text(b"\n");
+}
+
+// Lengths: one ring as document 01 gives them, with K 9, and some of two and three rings.
+fn lengths() {
+    length(1, 3);
+    length(1, 4);
+    length(1, 5);
+    length(1, 9);
+    length(2, 3);
+    length(2, 4);
+    length(3, 3);
+    length(3, 4);
+    length(3, 5);
+    length(3, 9);
+}
+
 fn main() {
     ranks();
     refused_boards();
     one_ring();
     three_rings();
+    lengths();
     round_trips(1, 3, 3, 560, &mut [0; 8]);
     round_trips(1, 5, 3, 56, &mut [0; 8]);
     round_trips(2, 3, 3, 160160, &mut [0; 16]);

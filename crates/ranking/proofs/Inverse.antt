@@ -12,7 +12,7 @@ use Rattle.board.specs.Board.{Values, more, count, digit}
 use Rattle.sizes.specs.Size.{size, sizeWithOne}
 use Rattle.ranking.specs.Rank.{readingRank, rank}
 use Rattle.ranking.specs.Unrank.{below, topValue, readingOf, unrank}
-use Rattle.ranking.proofs.Counts.{count-reverse, values-reverse}
+use Rattle.board.proofs.Counts.{count-reverse, values-reverse}
 use Rattle.sizes.proofs.Multinomials.{size-more, size-none, size-over}
 use Rattle.ranking.proofs.Reading.{rank-nil, rank-cons, rank-lt}
 

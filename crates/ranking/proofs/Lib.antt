@@ -1,4 +1,3 @@
-pub mod Counts
 pub mod Reading
 pub mod Inverse
 pub mod Steps

@@ -8,10 +8,10 @@ use native.Mathlib.Omega.{arith}
 use lib.Dec.{eqb, eqb·zero-suc, eqb·suc-zero, eqb·suc-suc}
 use lib.ListN.{length}
 use Rattle.board.specs.Board.{Values, count}
-use Rattle.sizes.specs.Size.{size, sizeWithOne, sizeWithTwo}
+use Rattle.sizes.specs.Size.{size, sizeWithOne}
 use Rattle.ranking.specs.Rank.{before, hasCounts, howMany, readingRank}
 use Rattle.ranking.specs.Unrank.{below}
-use Rattle.sizes.proofs.Multinomials.{size-more, size-none, size-over}
+use Rattle.sizes.proofs.Multinomials.{sizeWithTwo, size-more, size-none, size-over}
 
 none : (f : List ℕ → Bool) (n : ℕ) → ((xs : List ℕ) → f xs ≡ false) → howMany f n ≡ 0
 none f zero h = rw (h [])

@@ -8,12 +8,12 @@ use lib.ListN.{length, getD, take, drop, length-reverse, drop-of-length-le}
 use lib.Seq.{take-suc, take-all, take-take, take-at, getD-at, getD-take, length-take-le}
 use native.Mathlib.Numerals.{add-one}
 use Rattle.board.specs.Board.{Values, count, digit, setOf}
-use Rattle.board.proofs.Sides.{value-le, set-step}
+use Rattle.board.proofs.Sides.{value-le, set-none, set-step}
 use Rattle.sizes.specs.Size.{size, sizeWithOne}
 use Rattle.ranking.specs.Rank.{readingRank, rank}
 use Rattle.ranking.specs.Unrank.{below, topValue, readingOf, unrank}
 use Rattle.sizes.proofs.Multinomials.{size-small}
-use Rattle.ranking.proofs.Counts.{count-reverse, count-more, count-le, values-take}
+use Rattle.board.proofs.Counts.{count-reverse, count-more, count-le, values-take}
 use Rattle.ranking.proofs.Reading.{rank-nil, rank-cons}
 use Rattle.ranking.proofs.Inverse.{reading-cons, Rest, rest}
 use Rattle.ranking.proofs.Inverse as Inverse
@@ -132,7 +132,6 @@ pub record Unranking (b : List ℕ) (i m o r first second : ℕ) : Type 0 where
   pub opponent : second ≡ setOf 2 (drop i b)
 
 pub unranking-none : (n m o r : ℕ) → r < size n m o → Unranking (unrank n m o r) n m o r 0 0
-unfolding setOf
 unranking-none n m o r h =
     let b = unrank n m o r in
     let l : length b ≡ n = length-unrank n m o r in
@@ -140,8 +139,8 @@ unranking-none n m o r h =
       within = omega arith;
       rest-is = take-all n b (omega arith);
       rank-low = h;
-      mover = rw (drop-of-length-le b {i = n} (omega arith)) refl;
-      opponent = rw (drop-of-length-le b {i = n} (omega arith)) refl;
+      mover = rw (drop-of-length-le b {i = n} (omega arith)) (sym (set-none 1));
+      opponent = rw (drop-of-length-le b {i = n} (omega arith)) (sym (set-none 2));
     }
 
 pub unranking-more : {b : List ℕ} {i m o r first second : ℕ} (x : ℕ) → Unranking b i m o r first second → 0 < i

@@ -7,7 +7,7 @@ use native.Mathlib.Omega.{arith}
 use lib.Dec.{leb, ltb}
 use borrow.Author.Tests.{leb-true, leb-false, lt-leb, ltb-true, ltb-false}
 use Rattle.sizes.specs.Binomial.{binomial}
-use Rattle.sizes.specs.Size.{factorial, size, sizeWithOne, sizeWithTwo}
+use Rattle.sizes.specs.Size.{factorial, size, sizeWithOne}
 use Rattle.sizes.proofs.Binomials.{pascal, binomial-zero, binomial-over, binomial-small, binomial-factorial}
 
 -- the ways to choose m of n points, and then o of those left
@@ -60,6 +60,11 @@ size-ways n m o = go (leb (m + o) n) refl
 pub size-small : (n m o : ℕ) → n ≤ 24 → size n m o ≤ 2 ^ 48
 size-small n m o h =
     subst (λ (x : ℕ). x ≤ 2 ^ 48) (sym (size-ways n m o)) (mul-le-mul (binomial-small n m h) (binomial-small (n - m) o (omega arith)))
+
+-- n + 1 points hold m and o stones: how many boards have a 2 at one given point
+abbrev pub sizeWithTwo : ℕ → ℕ → ℕ → ℕ
+sizeWithTwo n m zero = 0
+sizeWithTwo n m (suc o) = size n m o
 
 -- at the highest point stands nothing, a 1 or a 2
 pub size-more : (n m o : ℕ) → size (suc n) m o ≡ size n m o + sizeWithOne n m o + sizeWithTwo n m o

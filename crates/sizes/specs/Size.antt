@@ -14,11 +14,7 @@ size points m o = elim (leb (m + o) points) [
   | false ↦ 0
 ]
 
--- n + 1 points hold m and o stones: how many boards have a 1 at one given point, and how many a 2
+-- n + 1 points hold m and o stones: how many boards have a 1 at one given point
 abbrev pub sizeWithOne : ℕ → ℕ → ℕ → ℕ
 sizeWithOne n zero o = 0
 sizeWithOne n (suc m) o = size n m o
-
-abbrev pub sizeWithTwo : ℕ → ℕ → ℕ → ℕ
-sizeWithTwo n m zero = 0
-sizeWithTwo n m (suc o) = size n m o

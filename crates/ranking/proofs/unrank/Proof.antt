@@ -6,8 +6,7 @@ use native.Mathlib.Omega.{arith}
 use borrow.Author.Needs.{needs}
 use lib.Dec.{eqb}
 use lib.ListN.{length}
-use Rattle.board.specs.Board.{positionOf}
-use Rattle.board.proofs.Sides.{digit-lt, set-small}
+use Rattle.board.proofs.Sides.{digit-lt, set-small, position-sides}
 use Rattle.ranking.specs.Unrank.{below, unrank as Unrank·unrank}
 use Rattle.sizes.proofs.Multinomials.{stones-few}
 use Rattle.ranking.proofs.Inverse.{Rest}
@@ -100,11 +99,10 @@ loop-again c =
     (rw e (unranking-more v (x .loop .inv .0) (c .before .before .loop-test .taken) (c .before .top-value .ensures)), omega arith)
 
 returns : tie.Need-returns Inv-loop μ-loop
-unfolding positionOf
 returns c =
     let x = c .before in
     let e : x .loop .i ≡ 0 = omega arith in
-    rw (x .loop .inv .0 .mover, x .loop .inv .0 .opponent, e)
+    rw (x .loop .inv .0 .mover, x .loop .inv .0 .opponent, e) (sym (position-sides _))
 
 pub unrank-spec : {M : Type 1} → statement M
 unrank-spec =

@@ -6,9 +6,8 @@ use native.Mathlib.Omega.{arith}
 use borrow.Author.Needs.{needs}
 use Rattle.sets.specs.Sets.{members}
 use Rattle.sets.proofs.Laws.{members-le}
-use Rattle.board.specs.Board.{positionOf}
 use Rattle.board.specs.declared.position.Position.{Position}
-use Rattle.board.proofs.Sides.{members-count}
+use Rattle.board.proofs.Sides.{members-count, position-sides}
 use Rattle.morris.specs.Conditions.{countsWrong}
 use Rattle.morris.proofs.refusals.stones_wrong.Statement.{statement}
 use Rattle.morris.proofs.refusals.stones_wrong.Tie as tie
@@ -28,11 +27,10 @@ counts-wrong-requires c κs =
     omega (arith, c .before .count .ensures, c .count2 .ensures, members-le (p .mover) 32, members-le (p .opponent) 32)
 
 returns : tie.Need-returns
-unfolding positionOf
 returns c =
     let s = c .before .before .before .before .before in
     let b : List ℕ = s .args .board .now in
-    let e = c .before .before .before .position-of .ensures in
+    let e = c .before .before .before .position-of .ensures ∙ position-sides b in
     c .counts-wrong .ensures
     ∙ ap₂ (λ (m o : ℕ). countsWrong (s .args .points) m o)
     (c .before .before .count .ensures ∙ ap (λ (p : Position). members (p .mover) 32) e ∙ members-count 1 b (s .pre))
