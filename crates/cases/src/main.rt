@@ -32,6 +32,28 @@ fn refused(n: u8) {
     number(n as u64);
 }
 
+fn ranked(answer: Ranked) {
+    match answer {
+        Ranked::Rank(r) => number(r),
+        Ranked::Refused(n) => refused(n),
+    }
+}
+
+fn unranked(answer: Unranked) {
+    match answer {
+        Unranked::Written => text(b" written"),
+        Unranked::Refused(n) => refused(n),
+    }
+}
+
+// A word and three numbers.
+fn table(word: &[u8], rings: u8, mover: u8, opponent: u8) {
+    text(word);
+    number(rings as u64);
+    number(mover as u64);
+    number(opponent as u64);
+}
+
 // The rank of a board.
 fn rank(rings: u8, board: &[u8]) {
     text(b"rank");
@@ -39,25 +61,16 @@ fn rank(rings: u8, board: &[u8]) {
     text(b" ");
     points(board);
     text(b":");
-    match morris::rank(rings, board) {
-        Ranked::Rank(r) => number(r),
-        Ranked::Refused(n) => refused(n),
-    }
+    ranked(morris::rank(rings, board));
     text(b"\n");
 }
 
 // The board of a rank, and what the target then holds.
 fn unrank(rings: u8, mover: u8, opponent: u8, rank: u64, target: &mut [u8]) {
-    text(b"unrank");
-    number(rings as u64);
-    number(mover as u64);
-    number(opponent as u64);
+    table(b"unrank", rings, mover, opponent);
     number(rank);
     text(b":");
-    match morris::unrank(rings, mover, opponent, rank, target) {
-        Unranked::Written => text(b" written"),
-        Unranked::Refused(n) => refused(n),
-    }
+    unranked(morris::unrank(rings, mover, opponent, rank, target));
     text(b" ");
     points(target);
     text(b"\n");
@@ -88,10 +101,7 @@ fn back(rings: u8, mover: u8, opponent: u8, end: u64, target: &mut [u8]) -> u64 
 }
 
 fn round_trips(rings: u8, mover: u8, opponent: u8, end: u64, target: &mut [u8]) {
-    text(b"round trips");
-    number(rings as u64);
-    number(mover as u64);
-    number(opponent as u64);
+    table(b"round trips", rings, mover, opponent);
     text(b":");
     number(back(rings, mover, opponent, end, target));
     text(b" of");
