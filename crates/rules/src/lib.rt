@@ -1,0 +1,1 @@
+// Plies: the moves of a position, and the position after one.
