@@ -1,7 +1,7 @@
 -- The few list functions that the definitions use. Assumes nothing.
 use mathlib.Core.Bool.{Bool, true, false}
 use mathlib.Core.List.{List, [], _∷_, _++_}
-use Prim.Native.Nat.{ℕ, zero, suc}
+use Prim.Native.Nat.{ℕ, zero, suc, _<_}
 use lib.Dec.{eqb}
 
 -- a, a + 1, .., a + n - 1
@@ -18,6 +18,16 @@ values f i (suc n) = f i ∷ values f (suc i) n
 abbrev pub member : ℕ → List ℕ → Bool
 member x [] = false
 member x (y ∷ ys) = elim (eqb y x) [ true ↦ true | false ↦ member x ys ]
+
+-- x is below every member
+abbrev pub Above : ℕ → List ℕ → Type 0
+Above x [] = Unit {0}
+Above x (y ∷ ys) = (x < y) × Above x ys
+
+-- each member is below all that come after it
+abbrev pub Rising : List ℕ → Type 0
+Rising [] = Unit {0}
+Rising (x ∷ xs) = Above x xs × Rising xs
 
 module _ {A : Type 0} where
   -- the members that pass a test, in their order

@@ -1,2 +1,4 @@
 pub mod Listed
+pub mod Leads
+pub mod Rises
 pub mod Worked

@@ -1,7 +1,7 @@
 -- A listed move, taken apart and put together: the stone, where it goes, and what it removes. Later proofs on plies go by this and not by the
 -- lists. Assumes nothing.
 use mathlib.Core.Path.{_≡_, refl}
-use mathlib.Core.Bool.{Bool, true, false, not, _||_}
+use mathlib.Core.Bool.{Bool, true, false, _||_}
 use mathlib.Core.List.{List, [], _∷_, List·Memᴰ, List·Memᴰ·eq-of-singleton}
 use mathlib.Core.Logic.{_⊎_, inl, inr, ⊎-elim}
 use Prim.Native.Nat.{ℕ, _*_, _<_}
@@ -9,11 +9,11 @@ use native.Mathlib.Omega.{arith}
 use lib.Dec.{eqb}
 use lib.ListN.{getD}
 use borrow.Author.Tests.{eqb-true, eq-eqb}
-use Rattle.lists.specs.Lists.{keep, each, orElse}
+use Rattle.lists.specs.Lists.{orElse}
 use Rattle.lists.proofs.Members.{keep-member, member-keep, each-member, member-each, map-member, member-map, range-member, member-range, orElse-cases}
 use Rattle.board.specs.Geometry.{points, adjoin}
 use Rattle.board.specs.Board.{count}
-use Rattle.rules.specs.Ply.{holds, holding, inMill, targets, slide, removable, noRemoval, removals, moveNumber, moves}
+use Rattle.rules.specs.Ply.{holds, holding, inMill, targets, slide, unshielded, removable, noRemoval, removals, moveNumber, moves}
 
 module _ (rings : ℕ) (b : List ℕ) (v p : ℕ) where
   pub holding-is : List·Memᴰ p (holding rings b v) → (p < 8 * rings) × (getD b p 0 ≡ v)
@@ -83,9 +83,12 @@ module _ (rule : ℕ → List ℕ → List ℕ) (rings : ℕ) (b : List ℕ) whe
 abbrev pub TakesOpponent : (ℕ → List ℕ → List ℕ) → Type 0
 TakesOpponent rule = (rings : ℕ) (b : List ℕ) (r : ℕ) → List·Memᴰ r (rule rings b) → (r < 8 * rings) × (getD b r 0 ≡ 2)
 
+unshielded-takes : TakesOpponent (λ rings b. unshielded rings b)
+unfolding unshielded
+unshielded-takes rings b r m = holding-is rings b 2 r (keep-member _ (holding rings b 2) m .0)
+
 -- document 01's rule does
 pub removable-takes : TakesOpponent (λ rings b. removable rings b)
 unfolding removable
 removable-takes rings b r m =
-    ⊎-elim (λ k. holding-is rings b 2 r (keep-member _ (holding rings b 2) k .0)) (λ k. holding-is rings b 2 r k)
-    (orElse-cases (keep (λ p. not (inMill rings (holds b 2) p)) (holding rings b 2)) (holding rings b 2) m)
+    ⊎-elim (λ k. unshielded-takes rings b r k) (λ k. holding-is rings b 2 r k) (orElse-cases (unshielded rings b) (holding rings b 2) m)

@@ -29,9 +29,13 @@ targets rings b from = keep (λ to. eqb (count 1 b) 3 || adjoin from to) (holdin
 unfoldable pub slide : List ℕ → ℕ → ℕ → List ℕ
 slide b from to = set (set b from 0) to 1
 
+-- the opposing stones outside any mill
+unfoldable pub unshielded : ℕ → List ℕ → List ℕ
+unshielded rings b = keep (λ p. not (inMill rings (holds b 2) p)) (holding rings b 2)
+
 -- "exactly one opposing stone must be removed: one outside any mill, or any one if all stand in mills"
 unfoldable pub removable : ℕ → List ℕ → List ℕ
-removable rings b = orElse (keep (λ p. not (inMill rings (holds b 2) p)) (holding rings b 2)) (holding rings b 2)
+removable rings b = orElse (unshielded rings b) (holding rings b 2)
 
 -- "with 31 for no removal"
 abbrev pub noRemoval : ℕ
