@@ -2,3 +2,4 @@ pub mod Keep
 pub mod Members
 pub mod Rises
 pub mod Table
+pub mod Tests

@@ -1,5 +1,5 @@
 -- Lists that the definitions make rise, and a rising list has no member twice. Assumes nothing.
-use mathlib.Core.Path.{_≡_, refl, sym, ap, _∙_}
+use mathlib.Core.Path.{_≡_, refl, sym, ap₂}
 use mathlib.Core.Bool.{Bool, true, false}
 use mathlib.Core.List.{List, [], _∷_, _++_, map, List·Memᴰ, List·Memᴰ·head, List·Memᴰ·tail, List·Memᴰ·not-nil, List·Memᴰ·cases-cons}
 use mathlib.Core.Logic.{_⊎_, inl, inr}
@@ -63,7 +63,7 @@ rising-add a (x ∷ xs) r = (up xs (r .0), rising-add a xs (r .1))
 rising-append : (a b : List ℕ) → Rising a → Rising b → ((x y : ℕ) → List·Memᴰ x a → List·Memᴰ y b → x < y) → Rising (a ++ b)
 rising-append [] b r s h = s
 rising-append (x ∷ xs) b r s h =
-    (join xs (r .0) , rising-append xs b (r .1) s (λ y z m k. h y z (List·Memᴰ·tail m) k))
+    (join xs (r .0), rising-append xs b (r .1) s (λ y z m k. h y z (List·Memᴰ·tail m) k))
   where
     join : (l : List ℕ) → Above x l → Above x (l ++ b)
     join [] k = member-above x b (λ y m. h x y (List·Memᴰ·head refl) m)
@@ -79,6 +79,27 @@ module _ (f : ℕ → List ℕ) where
       (rising-each xs (r .1) (λ y m. s y (List·Memᴰ·tail m)) (λ y z m k. h y z (List·Memᴰ·tail m) (List·Memᴰ·tail k)))
       (λ a b m k. let e = each-member f xs k in
       h x (e .0) (List·Memᴰ·head refl) (List·Memᴰ·tail (e .1)) (above-member x xs (r .0) (e .0) (e .1)) a b m (e .2))
+
+-- rising lists with the same members are the same
+pub rising-same : (a b : List ℕ) → Rising a → Rising b → ((x : ℕ) → List·Memᴰ x a → List·Memᴰ x b) → ((x : ℕ) → List·Memᴰ x b → List·Memᴰ x a) → a ≡ b
+rising-same [] [] r s h k = refl
+rising-same [] (y ∷ ys) r s h k = absurd (List·Memᴰ·not-nil (k y (List·Memᴰ·head refl)))
+rising-same (x ∷ xs) [] r s h k = absurd (List·Memᴰ·not-nil (h x (List·Memᴰ·head refl)))
+rising-same (x ∷ xs) (y ∷ ys) r s h k =
+    let e = first (List·Memᴰ·cases-cons (h x (List·Memᴰ·head refl))) (List·Memᴰ·cases-cons (k y (List·Memᴰ·head refl))) in
+    ap₂ _∷_ e
+    (rising-same xs ys (r .1) (s .1)
+    (λ z m. rest x y z e (above-member x xs (r .0) z m) (List·Memᴰ·cases-cons (h z (List·Memᴰ·tail m))))
+    (λ z m. rest y x z (sym e) (above-member y ys (s .0) z m) (List·Memᴰ·cases-cons (k z (List·Memᴰ·tail m)))))
+  where
+    first : (x ≡ y) ⊎ List·Memᴰ x ys → (y ≡ x) ⊎ List·Memᴰ y xs → x ≡ y
+    first (inl p) q = p
+    first (inr i) (inl p) = sym p
+    first (inr i) (inr j) = absurd (omega (arith, above-member y ys (s .0) x i, above-member x xs (r .0) y j))
+
+    rest : (a b z : ℕ) {l : List ℕ} → a ≡ b → a < z → (z ≡ b) ⊎ List·Memᴰ z l → List·Memᴰ z l
+    rest a b z e h (inl p) = absurd (omega (arith, e, h, p))
+    rest a b z e h (inr i) = i
 
 -- a rising list has no member twice
 pub rising-once : (l : List ℕ) → Rising l → (i j : ℕ) → i < j → j < length l → getD l i 0 < getD l j 0
