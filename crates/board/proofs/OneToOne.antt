@@ -1,14 +1,15 @@
 -- Boards of so many points and their positions are one-to-one, and a position's sets count its stones: with `board-position`, the two ways
 -- between bytes and sets undo each other. Assumes nothing.
 use mathlib.Core.Path.{_≡_, sym, ap, _∙_, subst}
-use Prim.Native.Nat.{ℕ, _^_, _≤_, _<_}
+use Prim.Native.Nat.{ℕ, _+_, _^_, _≤_, _<_}
 use native.Mathlib.Omega.{arith}
 use lib.Dec.{eqb}
 use Rattle.sets.specs.Sets.{bit, members}
 use Rattle.sets.proofs.Laws.{same-set}
 use Rattle.board.specs.declared.position.Position.{Position}
 use Rattle.board.specs.Board.{count, digit, setOf, positionOf, valueAt, boardOf, OnBoard}
-use Rattle.board.proofs.Sides.{set-lt, bit-set, members-count, length-board, board-at, said}
+use Rattle.board.proofs.Sides.{set-lt, bit-set, members-count, length-board, board-at, said, board-values}
+use Rattle.board.proofs.Stores.{three-sets}
 
 module _ (points : ℕ) (p : Position) (w : OnBoard points p) where
   -- the set of the board's points that hold v is a side, if its digits say so
@@ -37,3 +38,9 @@ module _ (points : ℕ) (p : Position) (w : OnBoard points p) where
 
   pub opponent-count : points ≤ 24 → members (p .opponent) 32 ≡ count 2 (boardOf points p)
   opponent-count h = ap (λ (s : ℕ). members s 32) (sym opponent-set) ∙ members-count 2 (boardOf points p) (omega (arith, length-board points p))
+
+  -- and leaves the other points vacant
+  pub vacant-sum : setOf 0 (boardOf points p) + p .mover + p .opponent + 1 ≡ 2 ^ points
+  vacant-sum =
+      let e = three-sets (boardOf points p) (board-values points p w) in
+      omega (arith, e, mover-set, opponent-set, ap (λ (n : ℕ). 2 ^ n) (length-board points p))

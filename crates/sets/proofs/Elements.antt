@@ -15,8 +15,8 @@ use borrow.Author.Tests.{eqb-true, eqb-false, eq-eqb, ne-eqb}
 use Rattle.lists.specs.Lists.{range, keep, member, Above, Rising}
 use Rattle.lists.proofs.Members.{keep-member, member-keep, range-member, member-range}
 use Rattle.lists.proofs.Rises.{rising-range, rising-keep, rising-same, member-above}
-use Rattle.lists.proofs.Tests.{is-member, member-is}
-use Rattle.sets.specs.Sets.{bit, has, with, without, members, elements, lowest, setFrom}
+use Rattle.lists.proofs.Tests.{is-member, member-is, same-test}
+use Rattle.sets.specs.Sets.{bit, has, with, without, members, elements, lowest, withAll, setFrom}
 use Rattle.sets.proofs.Laws.{bit-zero, bit-suc, bit-cases, bit-le, bit-empty, bit-with-same, bit-with-other, with-lt, bit-without-same, bit-without-other, without-member, same-set}
 
 -- who is an element
@@ -51,29 +51,68 @@ pub length-elements : (n s : ℕ) → length (elements n s) ≡ members s n
 unfolding elements members
 length-elements n s = let z : 0 + n ≡ n = omega arith in let e = rw z at (length-from s n 0) in omega (arith, e)
 
--- the set of a list has the list's members
-pub has-from : (l : List ℕ) (p : ℕ) → has (setFrom l) p ≡ member p l
-unfolding setFrom
-has-from [] p = ne-eqb (bit 0 p) 1 (λ q. omega (arith, bit-empty p))
-has-from (x ∷ l) p = go (eqb x p) refl (has-from l p)
-  where
-    go : (b : Bool) → eqb x p ≡ b → has (setFrom l) p ≡ member p l → has (with (setFrom l) x) p ≡ member p (x ∷ l)
-    go true e r =
-        let q = eqb-true x p e in
-        rw (e, member) (eq-eqb _ 1 (subst (λ (y : ℕ). bit (with (setFrom l) x) y ≡ 1) q (bit-with-same (setFrom l) x)))
-    go false e r =
-        rw (e, member) (ap (λ (d : ℕ). eqb d 1) (bit-with-other (setFrom l) x p (λ q. eqb-false x p e (sym q))) ∙ r)
+-- a set with a list's members has those that it had and the list's
+pub with-none : (s : ℕ) → withAll s [] ≡ s
+unfolding withAll
+with-none s = refl
 
+pub with-more : (s p : ℕ) (l : List ℕ) → withAll s (p ∷ l) ≡ withAll (with s p) l
+unfolding withAll
+with-more s p l = refl
+
+had : (s p q : ℕ) → bit s q ≡ 1 → bit (with s p) q ≡ 1
+had s p q h = go (eqb q p) refl
+  where
+    go : (b : Bool) → eqb q p ≡ b → bit (with s p) q ≡ 1
+    go true e = rw (eqb-true q p e) (bit-with-same s p)
+    go false e = bit-with-other s p q (eqb-false q p e) ∙ h
+
+all-had : (l : List ℕ) (s q : ℕ) → bit s q ≡ 1 → bit (withAll s l) q ≡ 1
+unfolding withAll
+all-had [] s q h = h
+all-had (p ∷ l) s q h = all-had l (with s p) q (had s p q h)
+
+all-new : (l : List ℕ) (s q : ℕ) → List·Memᴰ q l → bit (withAll s l) q ≡ 1
+unfolding withAll
+all-new [] s q m = absurd (List·Memᴰ·not-nil m)
+all-new (p ∷ l) s q m = go (List·Memᴰ·cases-cons m) (all-new l (with s p) q)
+  where
+    go : (q ≡ p) ⊎ List·Memᴰ q l → (List·Memᴰ q l → bit (withAll (with s p) l) q ≡ 1) → bit (withAll (with s p) l) q ≡ 1
+    go (inl e) r = all-had l (with s p) q (rw e (bit-with-same s p))
+    go (inr k) r = r k
+
+all-cases : (l : List ℕ) (s q : ℕ) → bit (withAll s l) q ≡ 1 → (bit s q ≡ 1) ⊎ List·Memᴰ q l
+unfolding withAll
+all-cases [] s q h = inl h
+all-cases (p ∷ l) s q h = go (eqb q p) refl (all-cases l (with s p) q h)
+  where
+    go : (b : Bool) → eqb q p ≡ b → (bit (with s p) q ≡ 1) ⊎ List·Memᴰ q l → (bit s q ≡ 1) ⊎ List·Memᴰ q (p ∷ l)
+    go true e c = inr (List·Memᴰ·head (eqb-true q p e))
+    go false e (inl k) = inl (sym (bit-with-other s p q (eqb-false q p e)) ∙ k)
+    go false e (inr k) = inr (List·Memᴰ·tail k)
+
+all-lt : (n : ℕ) (l : List ℕ) (s : ℕ) → s < 2 ^ n → ((p : ℕ) → List·Memᴰ p l → p < n) → withAll s l < 2 ^ n
+unfolding withAll
+all-lt n [] s h low = h
+all-lt n (p ∷ l) s h low = all-lt n l (with s p) (with-lt n s p h (low p (List·Memᴰ·head refl))) (λ q m. low q (List·Memᴰ·tail m))
+
+-- the set of a list has the list's members
 pub from-lt : (n : ℕ) (l : List ℕ) → ((p : ℕ) → List·Memᴰ p l → p < n) → setFrom l < 2 ^ n
 unfolding setFrom
-from-lt n [] h = pow-pos n
-from-lt n (x ∷ l) h = with-lt n (setFrom l) x (from-lt n l (λ p m. h p (List·Memᴰ·tail m))) (h x (List·Memᴰ·head refl))
+from-lt n l low = all-lt n l 0 (pow-pos n) low
 
 pub bit-from : (l : List ℕ) (p : ℕ) → List·Memᴰ p l → bit (setFrom l) p ≡ 1
-bit-from l p m = eqb-true (bit (setFrom l) p) 1 (has-from l p ∙ is-member p l m)
+unfolding setFrom
+bit-from l p m = all-new l 0 p m
 
 pub from-bit : (l : List ℕ) (p : ℕ) → bit (setFrom l) p ≡ 1 → List·Memᴰ p l
-from-bit l p e = member-is p l (sym (has-from l p) ∙ eq-eqb (bit (setFrom l) p) 1 e)
+unfolding setFrom
+from-bit l p e = ⊎-elim (λ k. absurd (omega (arith, k, bit-empty p))) (λ k. k) (all-cases l 0 p e)
+
+pub has-from : (l : List ℕ) (p : ℕ) → has (setFrom l) p ≡ member p l
+has-from l p =
+    same-test (has (setFrom l) p) (member p l) (λ e. is-member p l (from-bit l p (eqb-true (bit (setFrom l) p) 1 e)))
+    (λ e. eq-eqb (bit (setFrom l) p) 1 (bit-from l p (member-is p l e)))
 
 -- a rising list comes back from its set
 pub elements-from : (n : ℕ) (l : List ℕ) → Rising l → ((p : ℕ) → List·Memᴰ p l → p < n) → elements n (setFrom l) ≡ l

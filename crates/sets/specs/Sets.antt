@@ -40,7 +40,11 @@ elements n s = keep (λ p. has s p) (range 0 n)
 unfoldable pub lowest : ℕ → ℕ
 lowest s = getD (elements 32 s) 0 0
 
+-- s with all members of a list
+unfoldable pub withAll : ℕ → List ℕ → ℕ
+withAll s [] = s
+withAll s (p ∷ ps) = withAll (with s p) ps
+
 -- the set of a list's members
 unfoldable pub setFrom : List ℕ → ℕ
-setFrom [] = 0
-setFrom (p ∷ ps) = with (setFrom ps) p
+setFrom ps = withAll 0 ps
