@@ -4,7 +4,8 @@ use mathlib.Core.Bool.{Bool, true, false, true≢false}
 use mathlib.Core.Logic.{_⊎_, inl, inr}
 use mathlib.Core.List.{List, [], _∷_, _++_, map, List·Memᴰ, List·Memᴰ·head, List·Memᴰ·tail, List·Memᴰ·not-nil, List·Memᴰ·cases-cons, List·Memᴰ·append-cases, Memᴰ·append-left, Memᴰ·append-right}
 use Prim.Native.Nat.{ℕ, zero, suc, _+_, _≤_, _<_}
-use native.Mathlib.Nat.{eq-or-lt-of-le}
+use native.Mathlib.Nat.{eq-or-lt-of-le, not-suc-le-zero, le-of-suc-le-suc}
+use lib.ListN.{length, getD}
 use native.Mathlib.Omega.{arith}
 use Rattle.lists.specs.Lists.{range, keep, each, orElse}
 
@@ -97,3 +98,8 @@ module _ {A : Type 0} where
   pub orElse-second : (l r : List A) {x : A} → ((y : A) → List·Memᴰ y l → ⊥) → List·Memᴰ x r → List·Memᴰ x (orElse l r)
   orElse-second [] r none m = m
   orElse-second (y ∷ ys) r none m = absurd (none y (List·Memᴰ·head refl))
+
+pub getD-member : (l : List ℕ) (i : ℕ) → i < length l → List·Memᴰ (getD l i 0) l
+getD-member [] i h = absurd (not-suc-le-zero h)
+getD-member (x ∷ l) zero h = List·Memᴰ·head refl
+getD-member (x ∷ l) (suc i) h = List·Memᴰ·tail (getD-member l i (le-of-suc-le-suc h))

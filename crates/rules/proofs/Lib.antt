@@ -1,3 +1,4 @@
+pub mod Derived
 pub mod Listed
 pub mod Leads
 pub mod Rises

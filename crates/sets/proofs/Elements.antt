@@ -13,6 +13,7 @@ use lib.Count.{trailingZeros, under}
 use lib.ListN.{length, getD}
 use borrow.Author.Tests.{eqb-true, eqb-false, eq-eqb, ne-eqb}
 use Rattle.lists.specs.Lists.{range, keep, member, Above, Rising}
+use Rattle.lists.proofs.Keep.{keep-yes, keep-no}
 use Rattle.lists.proofs.Members.{keep-member, member-keep, range-member, member-range}
 use Rattle.lists.proofs.Rises.{rising-range, rising-keep, rising-same, member-above}
 use Rattle.lists.proofs.Tests.{is-member, member-is, same-test}
@@ -59,6 +60,19 @@ with-none s = refl
 pub with-more : (s p : ℕ) (l : List ℕ) → withAll s (p ∷ l) ≡ withAll (with s p) l
 unfolding withAll
 with-more s p l = refl
+
+pub from-is : (l : List ℕ) → setFrom l ≡ withAll 0 l
+unfolding setFrom
+from-is l = refl
+
+-- one of those that pass a test
+pub with-kept : (f : ℕ → Bool) (s p : ℕ) (l : List ℕ)
+    → withAll s (keep f (p ∷ l)) ≡ withAll (elim (f p) [ true ↦ with s p | false ↦ s ]) (keep f l)
+with-kept f s p l = go (f p) refl
+  where
+    go : (b : Bool) → f p ≡ b → withAll s (keep f (p ∷ l)) ≡ withAll (elim (f p) [ true ↦ with s p | false ↦ s ]) (keep f l)
+    go true e = ap (withAll s) (keep-yes f p l e) ∙ with-more s p (keep f l) ∙ rw e
+    go false e = ap (withAll s) (keep-no f p l e) ∙ rw e
 
 had : (s p q : ℕ) → bit s q ≡ 1 → bit (with s p) q ≡ 1
 had s p q h = go (eqb q p) refl
