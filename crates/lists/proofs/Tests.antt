@@ -1,5 +1,5 @@
 -- Tests over lists as facts: `member` says who is a member, `any` and `all` who passes. Assumes nothing.
-use mathlib.Core.Path.{_≡_, refl, sym, ap₂, _∙_}
+use mathlib.Core.Path.{_≡_, refl, sym, ap, ap₂, _∙_}
 use mathlib.Core.Bool.{Bool, true, false, false≢true, _&&_}
 use mathlib.Core.List.{List, [], _∷_, List·Memᴰ, List·Memᴰ·head, List·Memᴰ·tail, List·Memᴰ·not-nil, List·Memᴰ·cases-cons}
 use mathlib.Core.Logic.{_⊎_, inl, inr}
@@ -13,6 +13,14 @@ pub same-test : (a b : Bool) → (a ≡ true → b ≡ true) → (b ≡ true →
 same-test true b h k = sym (h refl)
 same-test false true h k = k refl
 same-test false false h k = refl
+
+pub and-left : (a b : Bool) → (a && b) ≡ true → a ≡ true
+and-left true b e = refl
+and-left false b e = e
+
+pub and-right : (a b : Bool) → (a && b) ≡ true → b ≡ true
+and-right true b e = e
+and-right false b e = absurd (false≢true e)
 
 pub member-is : (x : ℕ) (l : List ℕ) → member x l ≡ true → List·Memᴰ x l
 member-is x [] e = absurd (false≢true e)
@@ -32,6 +40,16 @@ is-member x (y ∷ ys) m = go (eqb y x) refl (List·Memᴰ·cases-cons m) (is-me
     go false q (inr k) r = rw (q, member) (r k)
 
 module _ {A : Type 0} where
+  -- all pass: so does each
+  pub all-member : (f : A → Bool) (l : List A) → all f l ≡ true → (x : A) → List·Memᴰ x l → f x ≡ true
+  all-member f [] e x m = absurd (List·Memᴰ·not-nil m)
+  all-member f (y ∷ ys) e x m = go (f y) refl e (List·Memᴰ·cases-cons m) (λ u k. all-member f ys u x k)
+    where
+      go : (b : Bool) → f y ≡ b → all f (y ∷ ys) ≡ true → (x ≡ y) ⊎ List·Memᴰ x ys → (all f ys ≡ true → List·Memᴰ x ys → f x ≡ true) → f x ≡ true
+      go true q e (inl p) r = ap f p ∙ q
+      go true q e (inr k) r = r (rw (q, all) at e) k
+      go false q e c r = absurd (false≢true (rw (q, all) at e))
+
   -- a test of both is a test of those that pass the first
   pub any-both : (f g : A → Bool) (l : List A) → any (λ x. f x && g x) l ≡ any g (keep f l)
   any-both f g [] = refl

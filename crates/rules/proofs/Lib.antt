@@ -1,5 +1,7 @@
 pub mod Derived
+pub mod FullMills
 pub mod Listed
 pub mod Leads
+pub mod OnSets
 pub mod Rises
 pub mod Worked

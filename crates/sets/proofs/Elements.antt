@@ -12,13 +12,17 @@ use lib.Pow.{pow-pos, pow-mono}
 use lib.Count.{trailingZeros, under}
 use lib.ListN.{length, getD}
 use borrow.Author.Tests.{eqb-true, eqb-false, eq-eqb, ne-eqb}
-use Rattle.lists.specs.Lists.{range, keep, member, Above, Rising}
+use Rattle.lists.specs.Lists.{range, keep, member, orElse, Rising}
 use Rattle.lists.proofs.Keep.{keep-yes, keep-no}
 use Rattle.lists.proofs.Members.{keep-member, member-keep, range-member, member-range}
 use Rattle.lists.proofs.Rises.{rising-range, rising-keep, rising-same, member-above}
 use Rattle.lists.proofs.Tests.{is-member, member-is, same-test}
 use Rattle.sets.specs.Sets.{bit, has, with, without, members, elements, lowest, withAll, setFrom}
 use Rattle.sets.proofs.Laws.{bit-zero, bit-suc, bit-cases, bit-le, bit-empty, bit-with-same, bit-with-other, with-lt, bit-without-same, bit-without-other, without-member, same-set}
+
+-- a member of a set of the points below n is one of them
+pub bit-low : (n s p : ℕ) → s < 2 ^ n → bit s p ≡ 1 → p < n
+bit-low n s p h e = lt-of-not-le (λ (g : n ≤ p). absurd (omega (arith, h, bit-le s p e, pow-mono {i = n} {j = p} g)))
 
 -- who is an element
 pub elements-is : (n s p : ℕ) → List·Memᴰ p (elements n s) → (p < n) × (bit s p ≡ 1)
@@ -128,6 +132,16 @@ has-from l p =
     same-test (has (setFrom l) p) (member p l) (λ e. is-member p l (from-bit l p (eqb-true (bit (setFrom l) p) 1 e)))
     (λ e. eq-eqb (bit (setFrom l) p) 1 (bit-from l p (member-is p l e)))
 
+-- a list whose set is empty has no members, so the set of a first choice or a second is found from the two sets
+pub from-first : (l r : List ℕ) → (setFrom l ≡ 0 → ⊥) → setFrom (orElse l r) ≡ setFrom l
+unfolding setFrom withAll
+from-first [] r n = absurd (n refl)
+from-first (x ∷ l) r n = refl
+
+pub from-second : (l r : List ℕ) → setFrom l ≡ 0 → setFrom (orElse l r) ≡ setFrom r
+from-second [] r e = refl
+from-second (x ∷ l) r e = absurd (omega (arith, bit-empty x, sym (ap (λ (s : ℕ). bit s x) e) ∙ bit-from (x ∷ l) x (List·Memᴰ·head refl)))
+
 -- a rising list comes back from its set
 pub elements-from : (n : ℕ) (l : List ℕ) → Rising l → ((p : ℕ) → List·Memᴰ p l → p < n) → elements n (setFrom l) ≡ l
 elements-from n l r h =
@@ -147,11 +161,8 @@ from-elements n s h =
 pub elements-more : (n k s : ℕ) → s < 2 ^ n → n ≤ k → elements k s ≡ elements n s
 elements-more n k s h l =
     rising-same (elements k s) (elements n s) (elements-rising k s) (elements-rising n s)
-    (λ p m. let e = elements-is k s p m in is-element n s p (low p (e .1)) (e .1))
+    (λ p m. let e = elements-is k s p m in is-element n s p (bit-low n s p h (e .1)) (e .1))
     (λ p m. let e = elements-is n s p m in is-element k s p (omega (arith, e .0)) (e .1))
-  where
-    low : (p : ℕ) → bit s p ≡ 1 → p < n
-    low p e = lt-of-not-le (λ (g : n ≤ p). absurd (omega (arith, h, bit-le s p e, pow-mono {i = n} {j = p} g)))
 
 -- the zeros below the lowest digit that is 1
 trailing-below : (k s p : ℕ) → p < trailingZeros k s → bit s p ≡ 0
