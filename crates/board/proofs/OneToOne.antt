@@ -4,8 +4,10 @@ use mathlib.Core.Path.{_≡_, sym, ap, _∙_, subst}
 use Prim.Native.Nat.{ℕ, _+_, _^_, _≤_, _<_}
 use native.Mathlib.Omega.{arith}
 use lib.Dec.{eqb}
+use lib.ListN.{getD}
 use Rattle.sets.specs.Sets.{bit, members}
 use Rattle.sets.proofs.Laws.{same-set}
+use Rattle.sets.proofs.Elements.{bit-low}
 use Rattle.board.specs.declared.position.Position.{Position}
 use Rattle.board.specs.Board.{count, digit, setOf, positionOf, valueAt, boardOf, OnBoard}
 use Rattle.board.proofs.Sides.{set-lt, bit-set, members-count, length-board, board-at, said, board-values}
@@ -44,3 +46,15 @@ module _ (points : ℕ) (p : Position) (w : OnBoard points p) where
   vacant-sum =
       let e = three-sets (boardOf points p) (board-values points p w) in
       omega (arith, e, mover-set, opponent-set, ap (λ (n : ℕ). 2 ^ n) (length-board points p))
+
+  -- what stands at a point, by the digits of the two sets
+  pub mover-at : (q : ℕ) → bit (p .mover) q ≡ 1 → (q < points) × (getD (boardOf points p) q 0 ≡ 1)
+  unfolding valueAt
+  mover-at q m =
+      let l = bit-low points (p .mover) q (w .mover-within) m in
+      let z : bit (p .opponent) q ≡ 0 = omega (arith, w .apart q l, m) in
+      (l, board-at points p q l ∙ rw (m, z))
+
+  pub vacant-at : (q : ℕ) → q < points → bit (p .mover) q ≡ 0 → bit (p .opponent) q ≡ 0 → getD (boardOf points p) q 0 ≡ 0
+  unfolding valueAt
+  vacant-at q l m o = board-at points p q l ∙ rw (m, o)

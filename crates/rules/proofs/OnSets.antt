@@ -16,15 +16,16 @@ use borrow.Author.Tests.{eqb-true, eq-eqb, ne-eqb}
 use Rattle.lists.specs.Lists.{range, keep, orElse}
 use Rattle.lists.proofs.Members.{keep-member, member-keep, range-member, member-range}
 use Rattle.lists.proofs.Tests.{keep-same}
-use Rattle.sets.specs.Sets.{bit, has, with, without, elements, setFrom}
+use Rattle.sets.specs.Sets.{bit, has, with, without, elements, withAll, setFrom}
 use Rattle.sets.proofs.Laws.{bit-and, bit-lt, bit-cases, same-set, without-absent}
-use Rattle.sets.proofs.Elements.{elements-is, is-element, elements-more, from-elements, from-lt, bit-from, from-bit}
+use Rattle.sets.proofs.Elements.{elements-is, is-element, elements-more, from-elements, from-lt, bit-from, from-bit, from-first, from-second}
 use Rattle.board.specs.Geometry.{points, adjoin, neighbours}
 use Rattle.board.specs.Board.{count, digit, setOf}
 use Rattle.board.proofs.Sides.{set-lt, bit-set}
 use Rattle.board.proofs.Stores.{has-set, elements-set, set-with, set-without}
-use Rattle.rules.specs.Ply.{holds, holding, inMill, targets, slide, unshielded, removable}
+use Rattle.rules.specs.Ply.{holds, holding, inMill, targets, slide, unshielded, removable, noRemoval, removals}
 use Rattle.rules.proofs.Listed.{holding-is, is-holding}
+use Rattle.rules.proofs.Leads.{slide-length}
 use Rattle.rules.proofs.FullMills.{in-mill-same}
 
 module _ (rings : ℕ) (small : rings ≤ 3) (b : List ℕ) (whole : length b ≡ 8 * rings) where
@@ -76,14 +77,9 @@ module _ (b : List ℕ) (from to : ℕ) (hf : from < length b) (ht : to < length
   pub slide-opponent : getD b from 0 ≡ 1 → getD b to 0 ≡ 0 → setOf 2 (slide b from to) ≡ setOf 2 b
   unfolding slide
   slide-opponent own vacant =
-      set-without 2 (set b from 0) to 1 to-low refl ∙ ap (λ (s : ℕ). without s to) (set-without 2 b from 0 hf refl ∙ without-absent (setOf 2 b) from (absent from hf own))
-      ∙ without-absent (setOf 2 b) to (absent0 to ht vacant)
-    where
-      absent : (p : ℕ) → p < length b → getD b p 0 ≡ 1 → bit (setOf 2 b) p ≡ 0
-      absent p h e = bit-set 2 b p h ∙ ap (λ (x : ℕ). digit (eqb x 2)) e
-
-      absent0 : (p : ℕ) → p < length b → getD b p 0 ≡ 0 → bit (setOf 2 b) p ≡ 0
-      absent0 p h e = bit-set 2 b p h ∙ ap (λ (x : ℕ). digit (eqb x 2)) e
+      set-without 2 (set b from 0) to 1 to-low refl
+      ∙ ap (λ (s : ℕ). without s to) (set-without 2 b from 0 hf refl ∙ without-absent (setOf 2 b) from (bit-set 2 b from hf ∙ ap (λ (x : ℕ). digit (eqb x 2)) own))
+      ∙ without-absent (setOf 2 b) to (bit-set 2 b to ht ∙ ap (λ (x : ℕ). digit (eqb x 2)) vacant)
 
 -- where a stone may go: with three stones to every vacant point, else to those among its neighbours
 module _ (rings : ℕ) (small : rings ≤ 3) (b : List ℕ) (whole : length b ≡ 8 * rings) (from : ℕ) where
@@ -132,3 +128,40 @@ module _ (rings : ℕ) (small : rings ≤ 3) (b : List ℕ) (whole : length b �
       go p h (inl t) (inr v) (inl a) = rw (t, v, a)
       go p h (inl t) (inr v) (inr a) = absurd (omega (arith, t, kept p h v a))
       go p h (inr t) v x = rw (t, vacant p t, near p h t)
+
+-- what a slide may remove
+module _ (rule : ℕ → List ℕ → List ℕ) (rings : ℕ) (b : List ℕ) (to : ℕ) where
+  pub removals-open : inMill rings (holds b 1) to ≡ false → setFrom (removals rule rings b to) ≡ 2 ^ 31
+  unfolding removals setFrom withAll
+  removals-open e = rw (e, removals)
+
+  pub removals-closed : inMill rings (holds b 1) to ≡ true → (setFrom (rule rings b) ≡ 0 → ⊥) → setFrom (removals rule rings b to) ≡ setFrom (rule rings b)
+  unfolding removals
+  removals-closed e n = rw (e, removals) (from-first (rule rings b) (noRemoval ∷ []) n)
+
+  pub removals-idle : inMill rings (holds b 1) to ≡ true → setFrom (rule rings b) ≡ 0 → setFrom (removals rule rings b to) ≡ 2 ^ 31
+  unfolding removals setFrom withAll
+  removals-idle e z = rw (e, removals) (from-second (rule rings b) (noRemoval ∷ []) z)
+
+-- a slide changes nothing of what may be removed
+module _ (rings : ℕ) (small : rings ≤ 3) (b : List ℕ) (whole : length b ≡ 8 * rings) (from to : ℕ) (hf : from < 8 * rings) (ht : to < 8 * rings)
+    (own : getD b from 0 ≡ 1) (vacant : getD b to 0 ≡ 0) where
+  lf : from < length b
+  lf = subst (λ (n : ℕ). from < n) (sym whole) hf
+
+  lt : to < length b
+  lt = subst (λ (n : ℕ). to < n) (sym whole) ht
+
+  pub slide-whole : length (slide b from to) ≡ 8 * rings
+  slide-whole = slide-length b from to lf lt own vacant ∙ whole
+
+  pub removable-slide : removable rings (slide b from to) ≡ removable rings b
+  removable-slide =
+      removable-set rings small (slide b from to) slide-whole
+      ∙ ap (λ (s : ℕ). orElse (unshieldedOf rings s) (elements 32 s)) (slide-opponent b from to lf lt own vacant)
+      ∙ sym (removable-set rings small b whole)
+
+  pub in-mill-slide : inMill rings (holds (slide b from to) 1) to ≡ inMill rings (λ q. has (with (without (setOf 1 b) from) to) q) to
+  in-mill-slide =
+      in-mill-set rings small (slide b from to) slide-whole 1 to
+      ∙ ap (λ (s : ℕ). inMill rings (λ q. has s q) to) (slide-mover b from to lf lt)

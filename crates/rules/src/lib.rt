@@ -1,5 +1,8 @@
 // Plies: the moves of a position, and the position after one.
 mod masks;
+mod plies;
 
 pub use masks::mill_masks;
 pub use masks::neighbour_masks;
+pub use plies::removals;
+pub use plies::targets;

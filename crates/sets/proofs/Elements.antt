@@ -1,11 +1,11 @@
 -- A set's members as a rising list: the way from a list to its set and back, how many there are, and the least one apart from the rest. Assumes
 -- nothing.
-use mathlib.Core.Path.{_≡_, refl, sym, ap, subst, _∙_}
+use mathlib.Core.Path.{_≡_, refl, sym, ap, ap₂, subst, _∙_}
 use mathlib.Core.Bool.{Bool, true, false, false≢true}
 use mathlib.Core.List.{List, [], _∷_, List·Memᴰ, List·Memᴰ·head, List·Memᴰ·tail, List·Memᴰ·not-nil, List·Memᴰ·cases-cons}
 use mathlib.Core.Logic.{_⊎_, inl, inr, ⊎-elim}
 use Prim.Native.Nat.{ℕ, zero, suc, _+_, _-_, _*_, _/_, _%_, _^_, _≤_, _<_}
-use native.Mathlib.Nat.{pow-suc, not-suc-le-zero, le-of-suc-le-suc, lt-of-not-le, eq-or-lt-of-le}
+use native.Mathlib.Nat.{pow-suc, not-suc-le-zero, le-of-suc-le-suc, lt-of-lt-of-le, lt-of-not-le, eq-or-lt-of-le}
 use native.Mathlib.Omega.{arith}
 use lib.Dec.{eqb}
 use lib.Pow.{pow-pos, pow-mono}
@@ -248,3 +248,21 @@ module _ (s : ℕ) (fits : s < 2 ^ 32) (some : s ≡ 0 → ⊥) where
 pub elements-none : (n : ℕ) → elements n 0 ≡ []
 elements-none n =
     rising-same (elements n 0) [] (elements-rising n 0) tt (λ p m. absurd (omega (arith, elements-is n 0 p m .1, bit-empty p))) (λ p m. absurd (List·Memᴰ·not-nil m))
+
+-- a loop over a set's members takes the least one and goes on with the rest
+pub record Taken (n left p rest : ℕ) : Type 0 where
+  pub low : p < n
+  pub member : bit left p ≡ 1
+  pub apart : elements 32 left ≡ p ∷ elements 32 rest
+  pub less : rest < left
+
+pub taken : (n left p rest : ℕ) → n ≤ 32 → left < 2 ^ n → (left ≡ 0 → ⊥) → p ≡ lowest left → rest ≡ without left p → Taken n left p rest
+taken n left p rest h l some e f =
+    let fits = lt-of-lt-of-le l (pow-mono {i = n} {j = 32} h) in
+    let m : bit left p ≡ 1 = ap (λ (q : ℕ). bit left q) e ∙ lowest-member left fits some in
+    record {
+      low = bit-low n left p l m;
+      member = m;
+      apart = elements-lowest left fits some ∙ ap₂ (λ (x y : ℕ). x ∷ elements 32 y) (sym e) (sym (f ∙ ap (without left) e));
+      less = subst (λ (x : ℕ). x < left) (sym (f ∙ ap (without left) e)) (without-less left fits some);
+    }
