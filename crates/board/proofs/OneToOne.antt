@@ -58,3 +58,10 @@ module _ (points : ℕ) (p : Position) (w : OnBoard points p) where
   pub vacant-at : (q : ℕ) → q < points → bit (p .mover) q ≡ 0 → bit (p .opponent) q ≡ 0 → getD (boardOf points p) q 0 ≡ 0
   unfolding valueAt
   vacant-at q l m o = board-at points p q l ∙ rw (m, o)
+
+  pub vacant-bits : (q : ℕ) → q < points → getD (boardOf points p) q 0 ≡ 0 → (bit (p .mover) q ≡ 0) × (bit (p .opponent) q ≡ 0)
+  vacant-bits q l e =
+      let h = subst (λ (n : ℕ). q < n) (sym (length-board points p)) l in (
+        ap (λ (s : ℕ). bit s q) (sym mover-set) ∙ bit-set 1 (boardOf points p) q h ∙ ap (λ (x : ℕ). digit (eqb x 1)) e,
+        ap (λ (s : ℕ). bit s q) (sym opponent-set) ∙ bit-set 2 (boardOf points p) q h ∙ ap (λ (x : ℕ). digit (eqb x 2)) e,
+      )

@@ -5,4 +5,5 @@ pub mod Leads
 pub mod OnPositions
 pub mod OnSets
 pub mod Rises
+pub mod Stones
 pub mod Worked

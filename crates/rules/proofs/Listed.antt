@@ -27,6 +27,11 @@ module _ (rings : ℕ) (b : List ℕ) (v p : ℕ) where
   unfolding holding points
   is-holding h e = member-keep (holds b v) (points rings) (member-range (8 * rings) 0 p (omega arith) (omega arith)) (eq-eqb (getD b p 0) v e)
 
+-- a stone goes to a vacant point
+pub target-vacant : (rings : ℕ) (b : List ℕ) (from to : ℕ) → List·Memᴰ to (targets rings b from) → (to < 8 * rings) × (getD b to 0 ≡ 0)
+unfolding targets
+target-vacant rings b from to m = holding-is rings b 0 to (keep-member (λ q. eqb (count 1 b) 3 || adjoin from q) (holding rings b 0) m .0)
+
 -- what makes a move a listed one
 pub record Move (rule : ℕ → List ℕ → List ℕ) (rings : ℕ) (b : List ℕ) (from to removed : ℕ) : Type 0 where
   pub from-low : from < 8 * rings

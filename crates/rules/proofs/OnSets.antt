@@ -24,7 +24,7 @@ use Rattle.board.specs.Board.{count, digit, setOf}
 use Rattle.board.proofs.Sides.{set-lt, bit-set}
 use Rattle.board.proofs.Stores.{has-set, elements-set, set-with, set-without}
 use Rattle.rules.specs.Ply.{holds, holding, inMill, targets, slide, unshielded, removable, noRemoval, removals}
-use Rattle.rules.proofs.Listed.{holding-is, is-holding}
+use Rattle.rules.proofs.Listed.{target-vacant}
 use Rattle.rules.proofs.Leads.{slide-length}
 use Rattle.rules.proofs.FullMills.{in-mill-same}
 
@@ -83,10 +83,6 @@ module _ (b : List ℕ) (from to : ℕ) (hf : from < length b) (ht : to < length
 
 -- where a stone may go: with three stones to every vacant point, else to those among its neighbours
 module _ (rings : ℕ) (small : rings ≤ 3) (b : List ℕ) (whole : length b ≡ 8 * rings) (from : ℕ) where
-  target-low : (p : ℕ) → List·Memᴰ p (targets rings b from) → p < 8 * rings
-  unfolding targets
-  target-low p m = holding-is rings b 0 p (keep-member (λ to. eqb (count 1 b) 3 || adjoin from to) (holding rings b 0) m .0) .0
-
   pub targets-jump : count 1 b ≡ 3 → setFrom (targets rings b from) ≡ setOf 0 b
   unfolding targets
   targets-jump e =
@@ -100,7 +96,7 @@ module _ (rings : ℕ) (small : rings ≤ 3) (b : List ℕ) (whole : length b �
   unfolding targets neighbours points
   targets-slide n =
       same-set (8 * rings) (setFrom (targets rings b from)) (bitAnd (setOf 0 b) (setFrom (neighbours rings from)))
-      (from-lt (8 * rings) (targets rings b from) target-low) (omega (arith, and-le-l (setOf 0 b) (setFrom (neighbours rings from)), set-within rings small b whole 0))
+      (from-lt (8 * rings) (targets rings b from) (λ p m. target-vacant rings b from p m .0)) (omega (arith, and-le-l (setOf 0 b) (setFrom (neighbours rings from)), set-within rings small b whole 0))
       (λ p h. go p h (bit-cases (setFrom (targets rings b from)) p) (bit-cases (setOf 0 b) p) (bit-cases (setFrom (neighbours rings from)) p) ∙ sym (bit-and (setOf 0 b) (setFrom (neighbours rings from)) p))
     where
       kept : (p : ℕ) → p < 8 * rings → bit (setOf 0 b) p ≡ 1 → bit (setFrom (neighbours rings from)) p ≡ 1 → bit (setFrom (targets rings b from)) p ≡ 1

@@ -6,12 +6,12 @@ use mathlib.Core.List.{List, [], _∷_, map, List·Memᴰ}
 use mathlib.Core.Logic.{_⊎_, inl, inr}
 use Prim.Native.Nat.{ℕ, _+_, _*_, _≤_, _<_}
 use native.Mathlib.Omega.{arith}
-use Rattle.lists.specs.Lists.{each, Rising}
-use Rattle.lists.proofs.Members.{each-member, map-member, keep-member}
+use Rattle.lists.specs.Lists.{Rising}
+use Rattle.lists.proofs.Members.{each-member, map-member}
 use Rattle.lists.proofs.Rises.{rising-range, rising-keep, rising-else, rising-add, rising-each}
 use Rattle.board.specs.Geometry.{points}
-use Rattle.rules.specs.Ply.{holds, holding, inMill, targets, slide, unshielded, removable, noRemoval, removals, moveNumber, moves}
-use Rattle.rules.proofs.Listed.{holding-is, removal-cases, TakesOpponent}
+use Rattle.rules.specs.Ply.{holds, holding, inMill, targets, slide, unshielded, removable, noRemoval, removals, moveNumber, slideMoves, stoneMoves, moves}
+use Rattle.rules.proofs.Listed.{target-vacant, removal-cases, TakesOpponent}
 
 abbrev pub RisingRule : (ℕ → List ℕ → List ℕ) → Type 0
 RisingRule rule = (rings : ℕ) (b : List ℕ) → Rising (rule rings b)
@@ -41,7 +41,7 @@ module _ (rule : ℕ → List ℕ → List ℕ) (takes : TakesOpponent rule) (ri
       go true e = rw (e, removals) (rising-else (rule rings b) (noRemoval ∷ []) (rises rings b) (tt, tt))
       go false e = rw (e, removals) (tt, tt)
 
-  removal-low : (b : List ℕ) (to r : ℕ) → List·Memᴰ r (removals rule rings b to) → r < 32
+  pub removal-low : (b : List ℕ) (to r : ℕ) → List·Memᴰ r (removals rule rings b to) → r < 32
   removal-low b to r m = go (removal-cases rule rings b to m)
     where
       go : (r ≡ noRemoval) ⊎ List·Memᴰ r (rule rings b) → r < 32
@@ -49,35 +49,24 @@ module _ (rule : ℕ → List ℕ → List ℕ) (takes : TakesOpponent rule) (ri
       go (inr i) = omega (arith, takes rings b r i .0)
 
   module _ (b : List ℕ) where
-    -- the moves of one stone to one point, and of one stone
-    abbrev slid : ℕ → ℕ → List ℕ
-    slid from to = map (λ removed. moveNumber from to removed) (removals rule rings (slide b from to) to)
-
-    slid-within : (from to n : ℕ) → List·Memᴰ n (slid from to) → (1024 * from + 32 * to ≤ n) × (n < 1024 * from + 32 * to + 32)
+    slid-within : (from to n : ℕ) → List·Memᴰ n (slideMoves rule rings b from to) → (1024 * from + 32 * to ≤ n) × (n < 1024 * from + 32 * to + 32)
     slid-within from to n m =
         let x = map-member _ (removals rule rings (slide b from to) to) m in
         let l = removal-low (slide b from to) to (x .0) (x .1) in
         (omega (arith, x .2), omega (arith, x .2))
 
-    target-low : (from to : ℕ) → List·Memᴰ to (targets rings b from) → to < 32
-    unfolding targets
-    target-low from to m = omega (arith, holding-is rings b 0 to (keep-member _ (holding rings b 0) m .0) .0)
-
-    abbrev gone : ℕ → List ℕ
-    gone from = each (λ to. slid from to) (targets rings b from)
-
-    gone-within : (from n : ℕ) → List·Memᴰ n (gone from) → (1024 * from ≤ n) × (n < 1024 * from + 1024)
+    gone-within : (from n : ℕ) → List·Memᴰ n (stoneMoves rule rings b from (targets rings b from)) → (1024 * from ≤ n) × (n < 1024 * from + 1024)
     gone-within from n m =
-        let x = each-member (λ to. slid from to) (targets rings b from) m in
+        let x = each-member (λ to. slideMoves rule rings b from to) (targets rings b from) m in
         let w = slid-within from (x .0) n (x .2) in
-        let l = target-low from (x .0) (x .1) in
+        let l = target-vacant rings b from (x .0) (x .1) .0 in
         (omega (arith, w .0), omega (arith, w .1))
 
     pub moves-rising : Rising (moves rule rings b)
     unfolding moves
     moves-rising =
-        rising-each (λ from. gone from) (holding rings b 1) (holding-rising rings b 1)
-        (λ from m. rising-each (λ to. slid from to) (targets rings b from) (targets-rising rings b from)
+        rising-each (λ from. stoneMoves rule rings b from (targets rings b from)) (holding rings b 1) (holding-rising rings b 1)
+        (λ from m. rising-each (λ to. slideMoves rule rings b from to) (targets rings b from) (targets-rising rings b from)
         (λ to k. rising-add (1024 * from + 32 * to) (removals rule rings (slide b from to) to) (removals-rising (slide b from to) to))
         (λ x y i j h p q mp mq. omega (arith, h, slid-within from x p mp .1, slid-within from y q mq .0)))
         (λ x y i j h p q mp mq. omega (arith, h, gone-within x p mp .1, gone-within y q mq .0))

@@ -58,11 +58,17 @@ toOf move = move / 32 % 32
 abbrev pub removedOf : ℕ → ℕ
 removedOf move = move % 32
 
+-- the moves of the stone at a point to another
+abbrev pub slideMoves : (ℕ → List ℕ → List ℕ) → ℕ → List ℕ → ℕ → ℕ → List ℕ
+slideMoves rule rings b from to = map (λ removed. moveNumber from to removed) (removals rule rings (slide b from to) to)
+
+-- the moves of the stone at a point to any of some points
+abbrev pub stoneMoves : (ℕ → List ℕ → List ℕ) → ℕ → List ℕ → ℕ → List ℕ → List ℕ
+stoneMoves rule rings b from tos = each (λ to. slideMoves rule rings b from to) tos
+
 -- the plies of a board as move numbers: "Moves are listed by rising number"
 unfoldable pub moves : (ℕ → List ℕ → List ℕ) → ℕ → List ℕ → List ℕ
-moves rule rings b =
-    each (λ from. each (λ to. map (λ removed. moveNumber from to removed) (removals rule rings (slide b from to) to)) (targets rings b from))
-    (holding rings b 1)
+moves rule rings b = each (λ from. stoneMoves rule rings b from (targets rings b from)) (holding rings b 1)
 
 -- the stone at a point is taken away, if any is removed
 unfoldable pub remove : List ℕ → ℕ → List ℕ

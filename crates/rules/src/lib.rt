@@ -1,7 +1,10 @@
 // Plies: the moves of a position, and the position after one.
+mod listing;
 mod masks;
 mod plies;
 
+pub use listing::count_moves;
+pub use listing::list_moves;
 pub use masks::mill_masks;
 pub use masks::neighbour_masks;
 pub use plies::removals;
