@@ -65,3 +65,8 @@ module _ (points : ℕ) (p : Position) (w : OnBoard points p) where
         ap (λ (s : ℕ). bit s q) (sym mover-set) ∙ bit-set 1 (boardOf points p) q h ∙ ap (λ (x : ℕ). digit (eqb x 1)) e,
         ap (λ (s : ℕ). bit s q) (sym opponent-set) ∙ bit-set 2 (boardOf points p) q h ∙ ap (λ (x : ℕ). digit (eqb x 2)) e,
       )
+
+  pub mover-bit : (q : ℕ) → q < points → getD (boardOf points p) q 0 ≡ 1 → bit (p .mover) q ≡ 1
+  mover-bit q l e =
+      ap (λ (s : ℕ). bit s q) (sym mover-set) ∙ bit-set 1 (boardOf points p) q (subst (λ (n : ℕ). q < n) (sym (length-board points p)) l)
+      ∙ ap (λ (x : ℕ). digit (eqb x 1)) e

@@ -14,6 +14,10 @@ same-test true b h k = sym (h refl)
 same-test false true h k = k refl
 same-test false false h k = refl
 
+pub untrue : (b : Bool) → (b ≡ true → ⊥) → false ≡ b
+untrue true h = absurd (h refl)
+untrue false h = refl
+
 pub and-left : (a b : Bool) → (a && b) ≡ true → a ≡ true
 and-left true b e = refl
 and-left false b e = e

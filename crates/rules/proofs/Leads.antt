@@ -73,7 +73,7 @@ module _ (b : List ℕ) (from to : ℕ) (hf : from < length b) (ht : to < length
       (omega arith, omega arith)
 
 -- one opposing stone is removed, or none
-abbrev Removed : List ℕ → ℕ → Type 0
+abbrev pub Removed : List ℕ → ℕ → Type 0
 Removed b r = (r ≡ noRemoval) ⊎ ((r < length b) × (r < 24) × (getD b r 0 ≡ 2))
 
 removed-low : (b : List ℕ) (r : ℕ) → Removed b r → r < 32
@@ -92,7 +92,7 @@ pub record Leads (b c : List ℕ) (removed : ℕ) : Type 0 where
   pub mover : MoverLeft b c removed
 
 -- the board once the stone has slid and the removal is made, before the sides change names
-record Before (b c : List ℕ) (removed : ℕ) : Type 0 where
+pub record Before (b c : List ℕ) (removed : ℕ) : Type 0 where
   pub values : Values c
   pub points : length c ≡ length b
   pub mover : count 1 c ≡ count 1 b
@@ -107,7 +107,7 @@ exchanged b c removed w = let s = exchange-counts c (w .values) in
     go q (inl x) = inl (x .0, q ∙ x .1)
     go q (inr x) = inr (x .0, ap suc q ∙ x .1)
 
-removed-before : (b : List ℕ) (from to r : ℕ) → from < length b → to < length b → getD b from 0 ≡ 1 → getD b to 0 ≡ 0 → Values b
+pub removed-before : (b : List ℕ) (from to r : ℕ) → from < length b → to < length b → getD b from 0 ≡ 1 → getD b to 0 ≡ 0 → Values b
     → Removed (slide b from to) r → Before b (remove (slide b from to) r) r
 unfolding slide remove
 removed-before b from to r hf ht own vacant d g = go g
@@ -134,7 +134,7 @@ removed-before b from to r hf ht own vacant d g = go g
 
 module _ (rule : ℕ → List ℕ → List ℕ) (takes : TakesOpponent rule) (rings : ℕ) (small : rings ≤ 3) (b : List ℕ) (v : Values b)
     (points : length b ≡ 8 * rings) where
-  removed-of : (from to r : ℕ) → Move rule rings b from to r → Removed (slide b from to) r
+  pub removed-of : (from to r : ℕ) → Move rule rings b from to r → Removed (slide b from to) r
   removed-of from to r m = go (removal-cases rule rings (slide b from to) to (m .removal))
     where
       go : (r ≡ noRemoval) ⊎ List·Memᴰ r (rule rings (slide b from to)) → Removed (slide b from to) r

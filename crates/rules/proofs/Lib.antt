@@ -2,6 +2,7 @@ pub mod Derived
 pub mod FullMills
 pub mod Listed
 pub mod Leads
+pub mod Numbers
 pub mod OnPositions
 pub mod OnSets
 pub mod Rises

@@ -32,6 +32,16 @@ pub target-vacant : (rings : ℕ) (b : List ℕ) (from to : ℕ) → List·Mem�
 unfolding targets
 target-vacant rings b from to m = holding-is rings b 0 to (keep-member (λ q. eqb (count 1 b) 3 || adjoin from q) (holding rings b 0) m .0)
 
+-- that is a neighbour, or any with exactly three stones
+pub target-of : (rings : ℕ) (b : List ℕ) (from to : ℕ) → List·Memᴰ to (targets rings b from) → (eqb (count 1 b) 3 || adjoin from to) ≡ true
+unfolding targets
+target-of rings b from to m = keep-member (λ q. eqb (count 1 b) 3 || adjoin from q) (holding rings b 0) m .1
+
+pub of-target : (rings : ℕ) (b : List ℕ) (from to : ℕ) → to < 8 * rings → getD b to 0 ≡ 0 → (eqb (count 1 b) 3 || adjoin from to) ≡ true
+    → List·Memᴰ to (targets rings b from)
+unfolding targets
+of-target rings b from to h v r = member-keep (λ q. eqb (count 1 b) 3 || adjoin from q) (holding rings b 0) (is-holding rings b 0 to h v) r
+
 -- what makes a move a listed one
 pub record Move (rule : ℕ → List ℕ → List ℕ) (rings : ℕ) (b : List ℕ) (from to removed : ℕ) : Type 0 where
   pub from-low : from < 8 * rings
@@ -51,28 +61,26 @@ pub record Listed (rule : ℕ → List ℕ → List ℕ) (rings : ℕ) (b : List
 
 module _ (rule : ℕ → List ℕ → List ℕ) (rings : ℕ) (b : List ℕ) where
   pub move-of : (n : ℕ) → List·Memᴰ n (moves rule rings b) → Listed rule rings b n
-  unfolding moves targets
+  unfolding moves
   move-of n m =
       let x = each-member _ (holding rings b 1) m in
       let y = each-member _ (targets rings b (x .0)) (x .2) in
       let z = map-member _ (removals rule rings (slide b (x .0) (y .0)) (y .0)) (y .2) in
-      let k = keep-member (λ to. eqb (count 1 b) 3 || adjoin (x .0) to) (holding rings b 0) (y .1) in
       let f = holding-is rings b 1 (x .0) (x .1) in
-      let g = holding-is rings b 0 (y .0) (k .0) in
+      let g = target-vacant rings b (x .0) (y .0) (y .1) in
       record {
         from = x .0;
         to = y .0;
         removed = z .0;
         number = z .2;
-        move = record { from-low = f .0; to-low = g .0; own = f .1; vacant = g .1; reach = k .1; removal = z .1 };
+        move = record { from-low = f .0; to-low = g .0; own = f .1; vacant = g .1; reach = target-of rings b (x .0) (y .0) (y .1); removal = z .1 };
       }
 
   pub of-move : (from to removed : ℕ) → Move rule rings b from to removed → List·Memᴰ (moveNumber from to removed) (moves rule rings b)
-  unfolding moves targets
+  unfolding moves
   of-move from to removed v =
       member-each _ (holding rings b 1) from (is-holding rings b 1 from (v .from-low) (v .own))
-      (member-each _ (targets rings b from) to
-      (member-keep (λ q. eqb (count 1 b) 3 || adjoin from q) (holding rings b 0) (is-holding rings b 0 to (v .to-low) (v .vacant)) (v .reach))
+      (member-each _ (targets rings b from) to (of-target rings b from to (v .to-low) (v .vacant) (v .reach))
       (member-map (λ r. moveNumber from to r) (removals rule rings (slide b from to) to) (v .removal)))
 
   -- a removal is none, or one that the rule names
