@@ -60,7 +60,7 @@ module _ (b : List ℕ) (from to : ℕ) (hf : from < length b) (ht : to < length
   unfolding slide
   slide-length = length-set (set b from 0) to 1 ∙ length-set b from 0
 
-  slide-counts : (count 1 (slide b from to) ≡ count 1 b) × (count 2 (slide b from to) ≡ count 2 b)
+  pub slide-counts : (count 1 (slide b from to) ≡ count 1 b) × (count 2 (slide b from to) ≡ count 2 b)
   unfolding slide
   slide-counts =
       let ne : (to ≡ from → ⊥) = λ e. let z = sym vacant ∙ ap (λ (i : ℕ). getD b i 0) e ∙ own in omega arith in

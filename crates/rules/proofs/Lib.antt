@@ -1,3 +1,4 @@
+pub mod Bound
 pub mod Derived
 pub mod FullMills
 pub mod Listed
