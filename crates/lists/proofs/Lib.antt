@@ -1,3 +1,4 @@
 pub mod Keep
 pub mod Members
 pub mod Table
+pub mod Tests
