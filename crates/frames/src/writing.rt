@@ -5,7 +5,7 @@ ghost use Prim.Native.Nat.{_+_, _*_, _≤_, _<_};
 ghost use lib.ListN.{length, getD};
 ghost use lib.Seq.{sets};
 ghost use Rattle.board.specs.Board.{Values};
-ghost use Rattle.frames.specs.Frame.{characterOf, fourPoints, packed, spelled, frameOf};
+ghost use Rattle.frames.specs.Frame.{frameLength, characterOf, fourPoints, packed, spelled, frameOf};
 
 // The character of a value.
 fn character_of(d: u8) -> u8
@@ -49,7 +49,7 @@ fn write_points(board: &[u8], n: usize, target: &mut [u8])
 
 // The frame of rings and a board, over the start of the target.
 pub fn write(rings: u8, board: &[u8], target: &mut [u8])
-    requires { ⌜ (rings ≤ 3) × (length (now board) ≡ 8 * rings) × Values (now board) × (2 + 4 * rings ≤ length (now target)) ⌝ }
+    requires { ⌜ (rings ≤ 3) × (length (now board) ≡ 8 * rings) × Values (now board) × (frameLength rings ≤ length (now target)) ⌝ }
     ensures { λ _. ⌜ now (target .exit) ≡ sets (now (target .entry)) 0 (frameOf rings (now (board .entry))) ⌝ }
 {
     write_byte(target, 0, rings);
