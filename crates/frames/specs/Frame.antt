@@ -56,7 +56,7 @@ unfoldable pub boardIn : List ℕ → List ℕ
 boardIn f = pointsIn (drop 1 (bytesIn f))
 
 -- the byte of four points
-unfoldable pub fourPoints : ℕ → ℕ → ℕ → ℕ → ℕ
+abbrev pub fourPoints : ℕ → ℕ → ℕ → ℕ → ℕ
 fourPoints a b c d = a + 4 * b + 16 * c + 64 * d
 
 -- the bytes of a board's points

@@ -2,9 +2,9 @@
 ghost use mathlib.Core.Path.{_≡_};
 ghost use mathlib.Core.Bool.{false};
 ghost use mathlib.Core.List.{_∷_, []};
-ghost use Prim.Native.Nat.{_+_, _≤_, _<_};
+ghost use Prim.Native.Nat.{_+_, _*_, _≤_, _<_};
 ghost use lib.ListN.{length, getD};
-ghost use Rattle.board.specs.Board.{setOf};
+ghost use Rattle.board.specs.Board.{digit, setOf};
 ghost use Rattle.frames.specs.Frame.{outside, anyOutside, frameWrong, valueOf, byteOf, pointsIn, ringsIn, boardIn};
 
 // The most characters that are read.
@@ -67,13 +67,18 @@ pub fn rings_of(frame: &[u8]) -> u8
     byte_at(frame, 0)
 }
 
+// A set of four points, the lowest first.
+fn four_set(a: bool, b: bool, c: bool, d: bool) -> u32
+    ensures { λ r. ⌜ (r ≡ digit a + 2 * digit b + 4 * (digit c + 2 * digit d)) × (r < 16) ⌝ }
+{
+    a as u32 + 2 * b as u32 + 4 * (c as u32 + 2 * d as u32)
+}
+
 // Which of a byte's four points hold the value v.
 fn four_with(b: u8, v: u8) -> u32
     ensures { λ r. ⌜ (r ≡ setOf v (pointsIn (b ∷ []))) × (r < 16) ⌝ }
 {
-    let low = (b % 4 == v) as u32 + 2 * (b / 4 % 4 == v) as u32;
-    let high = (b / 16 % 4 == v) as u32 + 2 * (b / 64 % 4 == v) as u32;
-    low + 4 * high
+    four_set(b % 4 == v, b / 4 % 4 == v, b / 16 % 4 == v, b / 64 % 4 == v)
 }
 
 // The points of a frame that hold the value v.

@@ -2,7 +2,7 @@
 ghost use mathlib.Core.Path.{_≡_};
 ghost use mathlib.Core.List.{_∷_, []};
 ghost use Prim.Native.Nat.{_+_, _*_, _≤_, _<_};
-ghost use lib.ListN.{length, getD};
+ghost use lib.ListN.{length, getD, drop};
 ghost use lib.Seq.{sets};
 ghost use Rattle.board.specs.Board.{Values};
 ghost use Rattle.frames.specs.Frame.{frameLength, characterOf, fourPoints, packed, spelled, frameOf};
@@ -27,12 +27,20 @@ fn write_byte(target: &mut [u8], at: usize, b: u8)
     target[at + 1] = character_of(b % 16);
 }
 
-// The byte of the four points from i on.
-fn four_points(board: &[u8], i: usize) -> u8
-    requires { ⌜ (i + 4 ≤ length (now board)) × Values (now board) ⌝ }
-    ensures { λ r. ⌜ r ≡ fourPoints (getD (now (board .entry)) i 0) (getD (now (board .entry)) (i + 1) 0) (getD (now (board .entry)) (i + 2) 0) (getD (now (board .entry)) (i + 3) 0) ⌝ }
+// Four points as a byte, the lowest in the lowest two bits.
+fn four_points(a: u8, b: u8, c: u8, d: u8) -> u8
+    requires { ⌜ (a ≤ 2) × (b ≤ 2) × (c ≤ 2) × (d ≤ 2) ⌝ }
+    ensures { λ r. ⌜ r ≡ fourPoints a b c d ⌝ }
 {
-    board[i] + 4 * board[i + 1] + 16 * board[i + 2] + 64 * board[i + 3]
+    a + 4 * b + 16 * c + 64 * d
+}
+
+// The byte of the four points from i on.
+fn byte_from(board: &[u8], i: usize) -> u8
+    requires { ⌜ (i + 4 ≤ length (now board)) × Values (now board) ⌝ }
+    ensures { λ r. ⌜ r ≡ getD (packed (drop i (now (board .entry)))) 0 0 ⌝ }
+{
+    four_points(board[i], board[i + 1], board[i + 2], board[i + 3])
 }
 
 // The points of a board of 4 × n points, after the rings.
@@ -42,7 +50,7 @@ fn write_points(board: &[u8], n: usize, target: &mut [u8])
 {
     let mut k = 0;
     while k < n {
-        write_byte(target, 2 + 2 * k, four_points(board, 4 * k));
+        write_byte(target, 2 + 2 * k, byte_from(board, 4 * k));
         k += 1;
     }
 }

@@ -1,9 +1,9 @@
 -- The refusals of the frame calls: what an accepted frame has, and the last place of each call, which decides where the places before it are
 -- passed. Assumes nothing.
 use mathlib.Core.Path.{_≡_, refl, sym, ap, ap₂, _∙_}
-use mathlib.Core.Bool.{Bool, true, false, not}
+use mathlib.Core.Bool.{Bool, true, false}
 use mathlib.Core.List.{List, [], _∷_}
-use Prim.Native.Nat.{ℕ, _+_, _*_, _≤_, _<_}
+use Prim.Native.Nat.{ℕ, _*_, _≤_, _<_}
 use native.Mathlib.Omega.{arith}
 use lib.Dec.{eqb}
 use lib.ListN.{length}
@@ -14,7 +14,7 @@ use Rattle.board.proofs.Sides.{members-count}
 use Rattle.frames.specs.Frame.{frameWrong, frameLength, ringsIn, boardIn}
 use Rattle.frames.proofs.Characters.{board-length, no-three, three-none}
 use Rattle.morris.specs.Refusals.{table, pickedRows, refusal}
-use Rattle.morris.specs.Conditions.{ringsWrong, frameLengthWrong, valueWrong, countsWrong, targetShort, boardPicks, framePicks, readPicks, writePicks}
+use Rattle.morris.specs.Conditions.{valueWrong, countsWrong, targetShort, boardPicks, framePicks, readPicks, writePicks}
 use Rattle.morris.specs.ReadFrameCall.{framePosition}
 use Rattle.morris.proofs.FirstRefusal.{meets, passes, passed, first-kept}
 use Rattle.morris.proofs.Conditions.{rings-right, values-right, length-fine, values-fine}

@@ -1,4 +1,5 @@
--- "Frames are read and written; a written board reads back as itself" (document 01): of the definitions, and of the two calls. Assumes nothing.
+-- "Frames are read and written; a written board reads back as itself" (document 01): of the definitions, and of the two calls. And a frame that is
+-- read is written back as itself. Assumes nothing.
 use mathlib.Core.Path.{_≡_, refl, sym, ap, ap₂, _∙_}
 use mathlib.Core.Bool.{not}
 use mathlib.Core.List.{List, [], _∷_, _++_}
@@ -10,14 +11,15 @@ use borrow.Author.Tests.{eq-eqb, ltb-false}
 use Rattle.board.specs.Board.{setOf, count, boardOf}
 use Rattle.board.proofs.Sides.{board-position, position-sides}
 use Rattle.frames.specs.Frame.{frameLength, ringsIn, boardIn, frameOf}
-use Rattle.frames.proofs.RoundTrip.{rings-back, board-back, length-frame, frame-fine}
+use Rattle.frames.proofs.RoundTrip.{rings-back, board-back, length-frame, frame-fine, frame-back}
 use Rattle.morris.specs.Refusals.{table, pickedRows, refusal}
-use Rattle.morris.specs.Conditions.{ringsWrong, frameLengthWrong, valueWrong, countsWrong, boardPicks, readPicks, writePicks}
-use Rattle.morris.specs.Answers.{accepted, answer, number, target}
+use Rattle.morris.specs.Conditions.{ringsWrong, valueWrong, countsWrong, boardPicks, readPicks, writePicks}
+use Rattle.morris.specs.Answers.{accepted, number}
 use Rattle.morris.specs.ReadFrameCall.{framePosition, readFrameCall}
 use Rattle.morris.specs.WriteFrameCall.{writeFrameCall, writeFrameTarget}
 use Rattle.morris.proofs.FirstRefusal.{passes, passed}
 use Rattle.morris.proofs.Conditions.{accepted-board}
+use Rattle.morris.proofs.FrameConditions.{board-accepted, room-passed}
 use Rattle.morris.proofs.Answering.{answer-accepted, target-written, number-none}
 
 module _ (rings : ℕ) (b : List ℕ) (e : refusal (boardPicks rings b) ≡ 0) where
@@ -84,4 +86,30 @@ write-then-read rings b old e =
       reads = ap (λ (k : List ℕ). readFrameCall (take (frameLength rings) k)) t ∙ ap readFrameCall (take-at f rest (frameLength rings) l) ∙ frame-reads rings b a;
       board = position-board rings b a;
       kept = ap (drop (frameLength rings)) t ∙ drop-at f rest (frameLength rings) l ∙ ap (λ (k : ℕ). drop k old) beyond;
+    }
+
+-- a frame that `read_frame` accepts: its position stands for its board, and `write_frame` writes the same characters for that
+pub record Same (f old : List ℕ) : Type 0 where
+  pub board : boardOf (8 * ringsIn f) (record { mover = setOf 1 (boardIn f); opponent = setOf 2 (boardIn f) }) ≡ boardIn f
+  pub answers : writeFrameCall (ringsIn f) (boardIn f) old ≡ accepted (length f ∷ [])
+  pub writes : take (length f) (writeFrameTarget (ringsIn f) (boardIn f) old) ≡ f
+
+pub read-then-write : (f old : List ℕ) → number (readFrameCall f) ≡ 0 → length f ≤ length old → Same f old
+unfolding readFrameCall writeFrameCall writeFrameTarget
+read-then-write f old e room =
+    let n = number-none (refusal (readPicks f)) (framePosition f) e in
+    let p = passed (pickedRows table (readPicks f)) refl n in
+    let a = board-accepted f n in
+    let r = ringsIn f in
+    let b = boardIn f in
+    let g : frameOf r b ≡ f = frame-back f (p .0) in
+    let l : length f ≡ frameLength r = ap length (sym g) ∙ frame-characters r b a in
+    let z : 0 ≡ refusal (writePicks r b (length old)) = room-passed r b (length old) (sym a) (omega (arith, l, room)) in
+    let t : sets old 0 (frameOf r b) ≡ f ++ drop (0 + length f) old = ap (sets old 0) g ∙ sets-eq f old 0 (omega (arith, room)) in
+    record {
+      board = position-board r b a;
+      answers = sym (answer-accepted (refusal (writePicks r b (length old))) (frameLength r ∷ []) z) ∙ ap (λ (k : ℕ). accepted (k ∷ [])) (sym l);
+      writes =
+          ap (take (length f)) (sym (target-written (refusal (writePicks r b (length old))) (sets old 0 (frameOf r b)) old z) ∙ t)
+          ∙ take-at f (drop (0 + length f) old) (length f) refl;
     }

@@ -1,7 +1,7 @@
 -- `morris::write_frame` meets its contract: a refusal of the board's picks, then of the target, or the frame. Assumes nothing.
 use mathlib.Core.Path.{_≡_, sym, ap, _∙_}
 use mathlib.Core.List.{List, [], _∷_}
-use Prim.Native.Nat.{ℕ, _≤_}
+use Prim.Native.Nat.{ℕ}
 use native.Mathlib.Omega.{arith}
 use lib.ListN.{length}
 use lib.Seq.{sets}
@@ -11,7 +11,7 @@ use Rattle.morris.specs.Refusals.{refusal}
 use Rattle.morris.specs.Conditions.{boardPicks, writePicks}
 use Rattle.morris.specs.Answers.{accepted, refused}
 use Rattle.morris.specs.WriteFrameCall.{writeFrameCall, writeFrameTarget}
-use Rattle.morris.proofs.Conditions.{Accepted, accepted-board}
+use Rattle.morris.proofs.Conditions.{accepted-board}
 use Rattle.morris.proofs.FrameConditions.{board-refused, room-refused, room-passed}
 use Rattle.morris.proofs.Answering.{answer-refused, answer-accepted, target-kept, target-written}
 use Rattle.morris.proofs.write_frame.Statement.{statement}

@@ -8,7 +8,7 @@ use lib.Seq.{drop-length}
 use Rattle.board.specs.Board.{setOf}
 use Rattle.board.proofs.Sides.{set-none}
 use Rattle.frames.specs.Frame.{bytesIn, pointsIn}
-use Rattle.frames.proofs.Characters.{Right, frame-right, board-rest, set-byte, set-small}
+use Rattle.frames.proofs.Characters.{frame-right, board-rest, set-byte, set-small}
 use Rattle.frames.proofs.reading.points_with.Statement.{statement}
 use Rattle.frames.proofs.reading.points_with.Tie as tie
 

@@ -1,6 +1,6 @@
 -- `frames::reading::rings_of` meets its contract: the first byte. Assumes nothing.
 use mathlib.Core.Path.{sym, _∙_}
-use Rattle.frames.proofs.Characters.{Right, frame-right, rings-first}
+use Rattle.frames.proofs.Characters.{frame-right, rings-first}
 use Rattle.frames.proofs.reading.rings_of.Statement.{statement}
 use Rattle.frames.proofs.reading.rings_of.Tie as tie
 

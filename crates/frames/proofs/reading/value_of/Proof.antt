@@ -3,7 +3,7 @@ use native.Mathlib.Omega.{arith}
 use borrow.Author.Tests.{le-ltb, lt-ltb}
 use borrow.Author.Needs.{needs}
 use Rattle.frames.specs.Frame.{valueOf}
-use Rattle.frames.proofs.Characters.{Inside, inside}
+use Rattle.frames.proofs.Characters.{inside}
 use Rattle.frames.proofs.reading.value_of.Statement.{statement}
 use Rattle.frames.proofs.reading.value_of.Tie as tie
 

@@ -27,11 +27,11 @@ mul-write-byte c = omega arith
 add-write-byte : tie.Need-add-write-byte Inv-loop μ-loop
 add-write-byte c = omega arith
 
-mul-four-points : tie.Need-mul-four-points Inv-loop μ-loop
-mul-four-points c = omega arith
+mul-byte-from : tie.Need-mul-byte-from Inv-loop μ-loop
+mul-byte-from c = omega arith
 
-four-points-requires : tie.Need-four-points-requires Inv-loop μ-loop
-four-points-requires c κs = (omega arith, c .before .before .before .before .before .pre .2)
+byte-from-requires : tie.Need-byte-from-requires Inv-loop μ-loop
+byte-from-requires c κs = (omega arith, c .before .before .before .before .before .pre .2)
 
 write-byte-requires : tie.Need-write-byte-requires Inv-loop μ-loop
 write-byte-requires c κs = omega arith
@@ -51,7 +51,7 @@ loop-again c =
       omega arith,
       ap length e ∙ simp length-sets (x .loop .inv .1),
       ap (λ (l : List ℕ). sets l (2 + 2 * (k + 1)) (spelled (packed (drop (4 * (k + 1)) b)))) e
-          ∙ stored-step (x .loop .target) b k _ (omega arith) (c .before .before .before .four-points .ensures) ∙ x .loop .inv .2,
+          ∙ stored-step (x .loop .target) b k _ (omega arith) (c .before .before .before .byte-from .ensures) ∙ x .loop .inv .2,
     )
 
 same-length : tie.Need-same-length Inv-loop μ-loop
@@ -73,8 +73,8 @@ write-points-spec =
     loop-holds
     mul-write-byte
     add-write-byte
-    mul-four-points
-    four-points-requires
+    mul-byte-from
+    byte-from-requires
     write-byte-requires
     add-k
     loop-less
