@@ -13,7 +13,7 @@ use borrow.Author.Tests.{ltb-false, eqb-false, eq-eqb, ne-eqb}
 use Rattle.lists.proofs.Tests.{or-left, or-right}
 use Rattle.board.specs.Board.{Values, digit, setOf}
 use Rattle.board.proofs.Sides.{set-lt, set-none, set-cons}
-use Rattle.frames.specs.Frame.{mostCharacters, outside, anyOutside, frameWrong, byteOf, bytesIn, pointsIn, ringsIn, boardIn}
+use Rattle.frames.specs.Frame.{mostCharacters, outside, anyOutside, frameWrong, frameLength, byteOf, bytesIn, pointsIn, ringsIn, boardIn}
 
 -- a character of 0-9 a-f: a digit below a, or a letter to f
 pub record Inside (c : ℕ) : Type 0 where
@@ -131,7 +131,7 @@ points-le [] = omega arith
 points-le (c ∷ []) = omega arith
 points-le (c ∷ d ∷ f) = omega (arith, points-le f)
 
-pub set-small : (v i : ℕ) (f : List ℕ) → 2 ≤ i → length f ≤ 14 → setOf v (pointsIn (bytesIn (drop i f))) < 2 ^ 24
+pub set-small : (v i : ℕ) (f : List ℕ) → 2 ≤ i → length f ≤ frameLength 3 → setOf v (pointsIn (bytesIn (drop i f))) < 2 ^ 24
 set-small v i f p h =
     lt-of-lt-of-le (set-lt v (pointsIn (bytesIn (drop i f))))
     (pow-mono {i = length (pointsIn (bytesIn (drop i f)))} {j = 24} (omega (arith, points-le (drop i f), length-drop i f)))

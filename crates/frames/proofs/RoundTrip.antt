@@ -10,7 +10,8 @@ use lib.ListN.{length, getD, drop}
 use borrow.Author.Tests.{ltb-true, ltb-false, lt-ltb, le-ltb, ne-eqb}
 use Rattle.lists.proofs.Tests.{or-left, or-right}
 use Rattle.board.specs.Board.{Values}
-use Rattle.frames.specs.Frame.{outside, anyOutside, frameWrong, frameLength, valueOf, characterOf, byteOf, bytesIn, pointsIn, ringsIn, boardIn, fourPoints, packed, spelled, frameOf}
+use Rattle.frames.specs.Frame.{outside, anyOutside, frameWrong, frameLength, valueOf, characterOf, byteOf, bytesIn, pointsIn}
+use Rattle.frames.specs.Frame.{ringsIn, boardIn, fourPoints, packed, spelled, frameOf}
 use Rattle.frames.proofs.Characters.{inside, frame-right}
 
 -- a character that was written has its value, and is no other than 0-9 a-f

@@ -14,6 +14,7 @@ mostCharacters = 64
 abbrev pub outside : ℕ → Bool
 outside c = ltb c 48 || (ltb 57 c && ltb c 97) || ltb 102 c
 
+-- some character outside 0-9 a-f
 unfoldable pub anyOutside : List ℕ → Bool
 anyOutside [] = false
 anyOutside (c ∷ f) = outside c || anyOutside f

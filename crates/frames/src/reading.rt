@@ -5,7 +5,7 @@ ghost use mathlib.Core.List.{_∷_, []};
 ghost use Prim.Native.Nat.{_+_, _*_, _≤_, _<_};
 ghost use lib.ListN.{length, getD};
 ghost use Rattle.board.specs.Board.{digit, setOf};
-ghost use Rattle.frames.specs.Frame.{outside, anyOutside, frameWrong, valueOf, byteOf, pointsIn, ringsIn, boardIn};
+ghost use Rattle.frames.specs.Frame.{outside, anyOutside, frameWrong, frameLength, valueOf, byteOf, pointsIn, ringsIn, boardIn};
 
 // The most characters that are read.
 const MOST_CHARACTERS: usize = 64;
@@ -17,6 +17,7 @@ fn outside(c: u8) -> bool
     (c < b'0') | ((b'9' < c) & (c < b'a')) | (b'f' < c)
 }
 
+// Some character outside 0-9 a-f.
 fn any_outside(frame: &[u8]) -> bool
     ensures { λ r. ⌜ r ≡ anyOutside (now (frame .entry)) ⌝ }
 {
@@ -83,7 +84,7 @@ fn four_with(b: u8, v: u8) -> u32
 
 // The points of a frame that hold the value v.
 pub fn points_with(frame: &[u8], v: u8) -> u32
-    requires { ⌜ (frameWrong (now frame) ≡ false) × (length (now frame) ≤ 14) ⌝ }
+    requires { ⌜ (frameWrong (now frame) ≡ false) × (length (now frame) ≤ frameLength 3) ⌝ }
     ensures { λ r. ⌜ r ≡ setOf v (boardIn (now (frame .entry))) ⌝ }
 {
     let mut s: u32 = 0;

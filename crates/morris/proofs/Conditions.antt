@@ -76,7 +76,13 @@ values-fine (x ∷ b) v = rw (le-ltb 2 x (v .0)) (values-fine b (v .1))
 
 pub counts-fine : (points m o : ℕ) → Counted points m o → countsWrong points m o ≡ false
 counts-fine points m o w =
-    rw (le-ltb m 3 (w .mover-low), le-ltb 9 m (w .mover-high), le-ltb o 3 (w .opponent-low), le-ltb 9 o (w .opponent-high), le-ltb points (m + o) (w .stones-fit))
+    rw (
+      le-ltb m 3 (w .mover-low),
+      le-ltb 9 m (w .mover-high),
+      le-ltb o 3 (w .opponent-low),
+      le-ltb 9 o (w .opponent-high),
+      le-ltb points (m + o) (w .stones-fit),
+    )
 
 -- an accepted board
 pub record Accepted (rings : ℕ) (b : List ℕ) : Type 0 where

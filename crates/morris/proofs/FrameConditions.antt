@@ -1,13 +1,13 @@
 -- The refusals of the frame calls: what an accepted frame has, and the last place of each call, which decides where the places before it are
 -- passed. Assumes nothing.
 use mathlib.Core.Path.{_≡_, refl, sym, ap, ap₂, _∙_}
-use mathlib.Core.Bool.{Bool, true, false}
+use mathlib.Core.Bool.{Bool, true, false, cond}
 use mathlib.Core.List.{List, [], _∷_}
-use Prim.Native.Nat.{ℕ, _*_, _≤_, _<_}
+use Prim.Native.Nat.{ℕ, _*_, _≤_}
 use native.Mathlib.Omega.{arith}
 use lib.Dec.{eqb}
 use lib.ListN.{length}
-use borrow.Author.Tests.{eqb-true, not-false, lt-ltb, le-ltb}
+use borrow.Author.Tests.{eqb-true, not-false}
 use Rattle.sets.specs.Sets.{members}
 use Rattle.board.specs.Board.{Values, setOf, count}
 use Rattle.board.proofs.Sides.{members-count}
@@ -16,7 +16,7 @@ use Rattle.frames.proofs.Characters.{board-length, no-three, three-none}
 use Rattle.morris.specs.Refusals.{table, pickedRows, refusal}
 use Rattle.morris.specs.Conditions.{valueWrong, countsWrong, targetShort, boardPicks, framePicks, readPicks, writePicks}
 use Rattle.morris.specs.ReadFrameCall.{framePosition}
-use Rattle.morris.proofs.FirstRefusal.{meets, passes, passed, first-kept}
+use Rattle.morris.proofs.FirstRefusal.{passes, passed, first-kept, one-more}
 use Rattle.morris.proofs.Conditions.{rings-right, values-right, length-fine, values-fine}
 
 -- a value above 2 in two bits is a 3
@@ -43,7 +43,8 @@ pub accepted-frame : (f : List ℕ) → refusal (framePicks f) ≡ 0 → Accepte
 accepted-frame f e =
     let p = passed (pickedRows table (framePicks f)) refl e in
     let r = rings-right (ringsIn f) (p .1 .0) in
-    let l : length f ≡ frameLength (ringsIn f) = eqb-true (length f) (frameLength (ringsIn f)) (not-false (eqb (length f) (frameLength (ringsIn f))) (p .1 .1 .0)) in
+    let n = frameLength (ringsIn f) in
+    let l : length f ≡ frameLength (ringsIn f) = eqb-true (length f) n (not-false (eqb (length f) n) (p .1 .1 .0)) in
     record {
       characters = p .0;
       rings-low = r .0;
@@ -72,16 +73,8 @@ stones-are f w rings m o e =
 pub frame-refused : (f : List ℕ) (n : ℕ) → (n ≡ 0 → ⊥) → n ≡ refusal (framePicks f) → n ≡ refusal (readPicks f)
 frame-refused f n z e = first-kept (pickedRows table (framePicks f)) (record { holds = stonesWrong f; number = 4 } ∷ []) n z e
 
-module _ (f : List ℕ) (e : 0 ≡ refusal (framePicks f)) where
-  pub stones-refused : stonesWrong f ≡ true → 4 ≡ refusal (readPicks f)
-  stones-refused h =
-      let p = passed (pickedRows table (framePicks f)) refl (sym e) in
-      meets (pickedRows table (readPicks f)) 4 (p .0, (p .1 .0, (p .1 .1 .0, (p .1 .1 .1 .0, tt)))) h
-
-  pub stones-passed : stonesWrong f ≡ false → 0 ≡ refusal (readPicks f)
-  stones-passed h =
-      let p = passed (pickedRows table (framePicks f)) refl (sym e) in
-      passes (pickedRows table (readPicks f)) (p .0, (p .1 .0, (p .1 .1 .0, (p .1 .1 .1 .0, (h, tt)))))
+pub stones-decide : (f : List ℕ) → 0 ≡ refusal (framePicks f) → refusal (readPicks f) ≡ cond (stonesWrong f) 4 0
+stones-decide f e = one-more (pickedRows table (framePicks f)) (stonesWrong f) 4 refl e
 
 -- the board of an accepted frame is an accepted board
 pub board-accepted : (f : List ℕ) → refusal (readPicks f) ≡ 0 → refusal (boardPicks (ringsIn f) (boardIn f)) ≡ 0
@@ -97,14 +90,5 @@ module _ (rings : ℕ) (b : List ℕ) (room : ℕ) where
   board-refused n z e =
       first-kept (pickedRows table (boardPicks rings b)) (record { holds = targetShort room (frameLength rings); number = 7 } ∷ []) n z e
 
-  module _ (e : 0 ≡ refusal (boardPicks rings b)) where
-    pub room-refused : room < frameLength rings → 7 ≡ refusal (writePicks rings b room)
-    room-refused h =
-        let p = passed (pickedRows table (boardPicks rings b)) refl (sym e) in
-        meets (pickedRows table (writePicks rings b room)) 4 (p .0, (p .1 .0, (p .1 .1 .0, (p .1 .1 .1 .0, tt)))) (lt-ltb room (frameLength rings) h)
-
-    pub room-passed : frameLength rings ≤ room → 0 ≡ refusal (writePicks rings b room)
-    room-passed h =
-        let p = passed (pickedRows table (boardPicks rings b)) refl (sym e) in
-        passes (pickedRows table (writePicks rings b room))
-        (p .0, (p .1 .0, (p .1 .1 .0, (p .1 .1 .1 .0, (le-ltb room (frameLength rings) h, tt)))))
+  pub room-decides : 0 ≡ refusal (boardPicks rings b) → refusal (writePicks rings b room) ≡ cond (targetShort room (frameLength rings)) 7 0
+  room-decides e = one-more (pickedRows table (boardPicks rings b)) (targetShort room (frameLength rings)) 7 refl e

@@ -1,13 +1,13 @@
 -- "Frames are read and written; a written board reads back as itself" (document 01): of the definitions, and of the two calls. And a frame that is
 -- read is written back as itself. Assumes nothing.
 use mathlib.Core.Path.{_≡_, refl, sym, ap, ap₂, _∙_}
-use mathlib.Core.Bool.{not}
+use mathlib.Core.Bool.{Bool, not, cond}
 use mathlib.Core.List.{List, [], _∷_, _++_}
 use Prim.Native.Nat.{ℕ, _+_, _*_, _≤_}
 use native.Mathlib.Omega.{arith}
 use lib.ListN.{length, take, drop}
 use lib.Seq.{sets, sets-eq, take-at, drop-at}
-use borrow.Author.Tests.{eq-eqb, ltb-false}
+use borrow.Author.Tests.{eq-eqb, le-ltb, ltb-false}
 use Rattle.board.specs.Board.{setOf, count, boardOf}
 use Rattle.board.proofs.Sides.{board-position, position-sides}
 use Rattle.frames.specs.Frame.{frameLength, ringsIn, boardIn, frameOf}
@@ -19,7 +19,7 @@ use Rattle.morris.specs.ReadFrameCall.{framePosition, readFrameCall}
 use Rattle.morris.specs.WriteFrameCall.{writeFrameCall, writeFrameTarget}
 use Rattle.morris.proofs.FirstRefusal.{passes, passed}
 use Rattle.morris.proofs.Conditions.{accepted-board}
-use Rattle.morris.proofs.FrameConditions.{board-accepted, room-passed}
+use Rattle.morris.proofs.FrameConditions.{board-accepted, room-decides}
 use Rattle.morris.proofs.Answering.{answer-accepted, target-written, number-none}
 
 module _ (rings : ℕ) (b : List ℕ) (e : refusal (boardPicks rings b) ≡ 0) where
@@ -83,7 +83,7 @@ write-then-read rings b old e =
     sym (target-written (refusal (writePicks rings b (length old))) (sets old 0 f) old (sym n)) ∙ sets-eq f old 0 (omega (arith, l, room)) in
     record {
       answers = sym (answer-accepted (refusal (writePicks rings b (length old))) (frameLength rings ∷ []) (sym n));
-      reads = ap (λ (k : List ℕ). readFrameCall (take (frameLength rings) k)) t ∙ ap readFrameCall (take-at f rest (frameLength rings) l) ∙ frame-reads rings b a;
+      reads = ap readFrameCall (ap (take (frameLength rings)) t ∙ take-at f rest (frameLength rings) l) ∙ frame-reads rings b a;
       board = position-board rings b a;
       kept = ap (drop (frameLength rings)) t ∙ drop-at f rest (frameLength rings) l ∙ ap (λ (k : ℕ). drop k old) beyond;
     }
@@ -104,7 +104,8 @@ read-then-write f old e room =
     let b = boardIn f in
     let g : frameOf r b ≡ f = frame-back f (p .0) in
     let l : length f ≡ frameLength r = ap length (sym g) ∙ frame-characters r b a in
-    let z : 0 ≡ refusal (writePicks r b (length old)) = room-passed r b (length old) (sym a) (omega (arith, l, room)) in
+    let z : 0 ≡ refusal (writePicks r b (length old)) =
+    sym (room-decides r b (length old) (sym a) ∙ ap (λ (t : Bool). cond t 7 0) (le-ltb (length old) (frameLength r) (omega (arith, l, room)))) in
     let t : sets old 0 (frameOf r b) ≡ f ++ drop (0 + length f) old = ap (sets old 0) g ∙ sets-eq f old 0 (omega (arith, room)) in
     record {
       board = position-board r b a;

@@ -119,6 +119,7 @@ pub fn of_frame(frame: &[u8]) -> u8
     if frame.len() != frames::frame_length(rings) {
         return BOARD_LENGTH;
     }
+    // a value above 2 in two bits is a 3
     if frames::points_with(frame, 3) != 0 {
         return BOARD_VALUE;
     }

@@ -1,6 +1,6 @@
 -- `morris::read_frame` meets its contract: the refusal of the frame taken apart, then that of its stones, or its position. Assumes nothing.
 use mathlib.Core.Path.{_≡_, sym, ap, _∙_}
-use mathlib.Core.Bool.{Bool, true, false}
+use mathlib.Core.Bool.{Bool, true, false, cond}
 use mathlib.Core.List.{List, [], _∷_}
 use Prim.Native.Nat.{ℕ, _*_}
 use native.Mathlib.Omega.{arith}
@@ -11,7 +11,7 @@ use Rattle.morris.specs.Conditions.{countsWrong, framePicks, readPicks}
 use Rattle.morris.specs.Answers.{accepted, refused, number}
 use Rattle.morris.specs.ReadFrameCall.{frameRead, framePosition, readFrameCall, takenApart}
 use Rattle.morris.specs.declared.Frame.{Frame}
-use Rattle.morris.proofs.FrameConditions.{stonesWrong, accepted-frame, frame-refused, stones-are, stones-refused, stones-passed}
+use Rattle.morris.proofs.FrameConditions.{accepted-frame, frame-refused, stones-are, stones-decide}
 use Rattle.morris.proofs.Answering.{answer-refused, answer-accepted, refused-number, accepted-values}
 use Rattle.morris.proofs.read_frame.Statement.{statement}
 use Rattle.morris.proofs.read_frame.Tie as tie
@@ -24,24 +24,24 @@ module _ (f : List ℕ) where
       let w = refused-number n (refusal (framePicks f)) (framePosition f) e in
       answer-refused n (refusal (readPicks f)) (framePosition f) (w .1) (frame-refused f n (w .1) (w .0))
 
-  module _ (rings m o : ℕ) (e : accepted (rings ∷ m ∷ o ∷ []) ≡ takenApart f) (t : Bool) (h : t ≡ countsWrong (8 * rings) (members m 32) (members o 32)) where
+  module _ (rings m o : ℕ) (e : accepted (rings ∷ m ∷ o ∷ []) ≡ takenApart f) where
     -- no refusal before the stones are counted, and the position of the frame
-    none : (refusal (framePicks f) ≡ 0) × (rings ∷ m ∷ o ∷ [] ≡ framePosition f)
+    given : (refusal (framePicks f) ≡ 0) × (rings ∷ m ∷ o ∷ [] ≡ framePosition f)
     unfolding takenApart
-    none = accepted-values (rings ∷ m ∷ o ∷ []) (framePosition f) (refusal (framePicks f)) e
+    given = accepted-values (rings ∷ m ∷ o ∷ []) (framePosition f) (refusal (framePicks f)) e
 
-    counted : t ≡ stonesWrong f
-    counted = h ∙ stones-are f (accepted-frame f (none .0)) rings m o (none .1)
+    -- then the stones decide
+    counted : (t : Bool) → t ≡ countsWrong (8 * rings) (members m 32) (members o 32) → cond t 4 0 ≡ refusal (readPicks f)
+    counted t h =
+        ap (λ (s : Bool). cond s 4 0) (h ∙ stones-are f (accepted-frame f (given .0)) rings m o (given .1)) ∙ sym (stones-decide f (sym (given .0)))
 
-    stones-turned : t ≡ true → refused 4 ≡ readFrameCall f
+    stones-turned : true ≡ countsWrong (8 * rings) (members m 32) (members o 32) → refused 4 ≡ readFrameCall f
     unfolding readFrameCall
-    stones-turned p =
-        answer-refused 4 (refusal (readPicks f)) (framePosition f) (λ z. absurd (omega arith)) (stones-refused f (sym (none .0)) (sym counted ∙ p))
+    stones-turned h = answer-refused 4 (refusal (readPicks f)) (framePosition f) (λ z. absurd (omega arith)) (counted true h)
 
-    position : t ≡ false → accepted (rings ∷ m ∷ o ∷ []) ≡ readFrameCall f
+    position : false ≡ countsWrong (8 * rings) (members m 32) (members o 32) → accepted (rings ∷ m ∷ o ∷ []) ≡ readFrameCall f
     unfolding readFrameCall
-    position p =
-        ap accepted (none .1) ∙ answer-accepted (refusal (readPicks f)) (framePosition f) (stones-passed f (sym (none .0)) (sym counted ∙ p))
+    position h = ap accepted (given .1) ∙ answer-accepted (refusal (readPicks f)) (framePosition f) (counted false h)
 
 take-apart-requires : tie.Need-take-apart-requires
 take-apart-requires c κs = search needs
@@ -76,14 +76,14 @@ returns-2 c =
     let y = c .before .before .before in
     let g = y .read .given in
     stones-turned (y .before .before .before .before .args .frame .now) (g .0 .0) (g .0 .1 .0) (g .0 .1 .1 .0)
-    (sym (ap frameRead (g .1)) ∙ y .before .before .take-apart .ensures) (c .before .sides-wrong .result) (c .before .sides-wrong .ensures) (c .if1 .taken)
+    (sym (ap frameRead (g .1)) ∙ y .before .before .take-apart .ensures) (sym (c .if1 .taken) ∙ c .before .sides-wrong .ensures)
 
 returns-3 : tie.Need-returns-3
 returns-3 c =
     let y = c .before .before .before in
     let g = y .read .given in
     position (y .before .before .before .before .args .frame .now) (g .0 .0) (g .0 .1 .0) (g .0 .1 .1 .0)
-    (sym (ap frameRead (g .1)) ∙ y .before .before .take-apart .ensures) (c .before .sides-wrong .result) (c .before .sides-wrong .ensures) (c .if1 .left)
+    (sym (ap frameRead (g .1)) ∙ y .before .before .take-apart .ensures) (sym (c .if1 .left) ∙ c .before .sides-wrong .ensures)
 
 pub read-frame-spec : {M : Type 1} → statement M
 read-frame-spec =

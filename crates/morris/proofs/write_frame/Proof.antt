@@ -1,10 +1,12 @@
 -- `morris::write_frame` meets its contract: a refusal of the board's picks, then of the target, or the frame. Assumes nothing.
 use mathlib.Core.Path.{_≡_, sym, ap, _∙_}
+use mathlib.Core.Bool.{Bool, cond}
 use mathlib.Core.List.{List, [], _∷_}
 use Prim.Native.Nat.{ℕ}
 use native.Mathlib.Omega.{arith}
 use lib.ListN.{length}
 use lib.Seq.{sets}
+use borrow.Author.Tests.{lt-ltb, le-ltb}
 use borrow.Author.Needs.{needs}
 use Rattle.frames.specs.Frame.{frameLength, frameOf}
 use Rattle.morris.specs.Refusals.{refusal}
@@ -12,7 +14,7 @@ use Rattle.morris.specs.Conditions.{boardPicks, writePicks}
 use Rattle.morris.specs.Answers.{accepted, refused}
 use Rattle.morris.specs.WriteFrameCall.{writeFrameCall, writeFrameTarget}
 use Rattle.morris.proofs.Conditions.{accepted-board}
-use Rattle.morris.proofs.FrameConditions.{board-refused, room-refused, room-passed}
+use Rattle.morris.proofs.FrameConditions.{board-refused, room-decides}
 use Rattle.morris.proofs.Answering.{answer-refused, answer-accepted, target-kept, target-written}
 use Rattle.morris.proofs.write_frame.Statement.{statement}
 use Rattle.morris.proofs.write_frame.Tie as tie
@@ -46,8 +48,9 @@ of-board-requires c κs = search needs
 returns : tie.Need-returns
 returns c =
     let a = c .before .before .before .before .args in
-    turned-back (a .rings) (a .board .now) (a .target .now) (c .before .of-board .result) (c .if1 .taken)
-    (board-refused (a .rings) (a .board .now) (length (a .target .now)) (c .before .of-board .result) (c .if1 .taken) (c .before .of-board .ensures))
+    let n = c .before .of-board .result in
+    turned-back (a .rings) (a .board .now) (a .target .now) n (c .if1 .taken)
+    (board-refused (a .rings) (a .board .now) (length (a .target .now)) n (c .if1 .taken) (c .before .of-board .ensures))
 
 frame-length-requires : tie.Need-frame-length-requires
 frame-length-requires c κs = search needs
@@ -56,8 +59,10 @@ returns-2 : tie.Need-returns-2
 returns-2 c =
     let x = c .before .before in
     let a = x .before .before .before .before .args in
+    let n = length (a .target .now) in
+    let short = lt-ltb n (frameLength (a .rings)) (omega (arith, c .if2 .taken, c .before .frame-length .ensures)) in
     turned-back (a .rings) (a .board .now) (a .target .now) 7 (λ z. absurd (omega arith))
-    (room-refused (a .rings) (a .board .now) (length (a .target .now)) (passed-board x) (omega (arith, c .if2 .taken, c .before .frame-length .ensures)))
+    (sym (room-decides (a .rings) (a .board .now) n (passed-board x) ∙ ap (λ (t : Bool). cond t 7 0) short))
 
 write-requires : tie.Need-write-requires
 write-requires c κs =
@@ -75,8 +80,10 @@ returns-3 c =
     let y = c .before .before .before .before in
     let x = y .before .before in
     let a = x .before .before .before .before .args in
+    let n = length (a .target .now) in
+    let fits = le-ltb n (frameLength (a .rings)) (omega (arith, y .if2 .left, y .before .frame-length .ensures)) in
     written (a .rings) (a .board .now) (a .target .now) (y .before .frame-length .result) (c .before .before .write .last .1 .1 .0)
-    (room-passed (a .rings) (a .board .now) (length (a .target .now)) (passed-board x) (omega (arith, y .if2 .left, y .before .frame-length .ensures)))
+    (sym (room-decides (a .rings) (a .board .now) n (passed-board x) ∙ ap (λ (t : Bool). cond t 7 0) fits))
     (y .before .frame-length .ensures) (c .before .before .write .ensures)
 
 pub write-frame-spec : {M : Type 1} → statement M

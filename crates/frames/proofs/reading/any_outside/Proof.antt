@@ -36,7 +36,8 @@ loop-again : tie.Need-loop-again Inv-loop μ-loop
 loop-again c =
     let x = c .before .before .before in
     let f = x .before .before .args .frame .now in
-    (omega arith, ap₂ _||_ (c .outside .ensures) (x .loop .inv .1) ∙ sym (outside-step (x .loop .i) f (c .before .before .loop-test .taken) (x .loop .inv .0)))
+    let s = outside-step (x .loop .i) f (c .before .before .loop-test .taken) (x .loop .inv .0) in
+    (omega arith, ap₂ _||_ (c .outside .ensures) (x .loop .inv .1) ∙ sym s)
 
 returns : tie.Need-returns Inv-loop μ-loop
 returns c =

@@ -1,4 +1,5 @@
--- `frames::writing::write_points` meets its contract. The invariant: with what is left to be written, the target is what it is to be. Assumes nothing.
+-- `frames::writing::write_points` meets its contract. The invariant: what is left to be written makes of the target what it is to be.
+-- Assumes nothing.
 use mathlib.Core.Path.{_≡_, refl, ap, _∙_}
 use mathlib.Core.List.{List}
 use Prim.Native.Nat.{ℕ, _≤_, _+_, _*_, _-_}

@@ -76,7 +76,8 @@ points-with-requires : tie.Need-points-with-requires
 points-with-requires c κs =
     let y = c .before .before in
     let x = y .before .before .before in
-    (characters-passed x, omega (arith, c .if3 .left, length-asked (c .before), rings-right (ringsIn (x .before .before .before .args .frame .now)) (rings-passed y)))
+    let r = rings-right (ringsIn (x .before .before .before .args .frame .now)) (rings-passed y) in
+    (characters-passed x, omega (arith, c .if3 .left, length-asked (c .before), r))
 
 returns-4 : tie.Need-returns-4
 unfolding rows
