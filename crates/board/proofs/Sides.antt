@@ -47,6 +47,11 @@ pub set-none : (v : ℕ) → setOf v [] ≡ 0
 unfolding setOf
 set-none v = refl
 
+-- the lowest point, and the points above it
+pub set-cons : (v x : ℕ) (b : List ℕ) → setOf v (x ∷ b) ≡ digit (eqb x v) + 2 * setOf v b
+unfolding setOf
+set-cons v x b = refl
+
 -- one point more, from the highest down
 pub set-step : (v i : ℕ) (b : List ℕ) → 0 < i → i ≤ length b
     → setOf v (drop (i - 1) b) ≡ digit (eqb (getD b (i - 1) 0) v) + 2 * setOf v (drop i b)

@@ -2,7 +2,8 @@
 use mathlib.Core.Path.{_≡_, refl, ap}
 use mathlib.Core.List.{List}
 use Prim.Native.Nat.{ℕ, zero, suc}
-use Rattle.morris.specs.Answers.{accepted, refused, answer, target}
+use native.Mathlib.Omega.{arith}
+use Rattle.morris.specs.Answers.{accepted, refused, number, answer, target}
 
 -- turned back: n is the refusal r that the call meets
 pub answer-refused : (n r : ℕ) (vs : List ℕ) → (n ≡ 0 → ⊥) → n ≡ r → refused n ≡ answer r vs
@@ -19,3 +20,16 @@ answer-accepted r vs e = ap (λ (k : ℕ). answer k vs) e
 
 pub target-written : (r : ℕ) (new old : List ℕ) → 0 ≡ r → new ≡ target r new old
 target-written r new old e = ap (λ (k : ℕ). target k new old) e
+
+-- what an answer says of the refusal that was met
+pub number-none : (r : ℕ) (vs : List ℕ) → number (answer r vs) ≡ 0 → r ≡ 0
+number-none zero vs e = refl
+number-none (suc r) vs e = e
+
+pub refused-number : (n r : ℕ) (vs : List ℕ) → refused n ≡ answer r vs → (n ≡ r) × (n ≡ 0 → ⊥)
+refused-number n zero vs e = let z : _≡_ {A = ℕ} 0 1 = cc in absurd (omega arith)
+refused-number n (suc r) vs e = (ap number e, λ z. omega (arith, ap number e))
+
+pub accepted-values : (vs ws : List ℕ) (r : ℕ) → accepted vs ≡ answer r ws → (r ≡ 0) × (vs ≡ ws)
+accepted-values vs ws zero e = (refl, cc)
+accepted-values vs ws (suc r) e = absurd (omega (arith, ap number e))

@@ -1,26 +1,19 @@
 -- What the conditions say where they do not hold, and the step of the loop that looks for a wrong value. Assumes nothing.
-use mathlib.Core.Path.{_≡_, refl, sym, ap, subst, _∙_}
-use mathlib.Core.Bool.{Bool, true, false, _||_}
+use mathlib.Core.Path.{_≡_, refl, sym, ap, _∙_}
+use mathlib.Core.Bool.{false, not, _||_}
 use mathlib.Core.List.{List, [], _∷_}
 use Prim.Native.Nat.{ℕ, suc, _+_, _-_, _*_, _≤_, _<_}
 use native.Mathlib.Omega.{arith}
-use lib.Dec.{T, eqb, ltb}
+use lib.Dec.{eqb, ltb}
 use lib.ListN.{length, getD, drop}
 use lib.Seq.{drop-cons}
-use borrow.Author.Tests.{ltb-false, leb-false, le-leb, lt-leb, eqb-true, not-false}
+use borrow.Author.Tests.{ltb-false, le-ltb, leb-false, le-leb, lt-leb, eqb-true, eq-eqb, not-false}
+use Rattle.lists.proofs.Tests.{or-left, or-right}
 use Rattle.board.specs.Board.{Values, count}
 use Rattle.sizes.specs.Size.{size}
 use Rattle.morris.specs.Refusals.{table, pickedRows, refusal}
 use Rattle.morris.specs.Conditions.{boardPicks, countsPicks, rankPicks, ringsWrong, lengthWrong, valueWrong, countsWrong, rankWrong}
 use Rattle.morris.proofs.FirstRefusal.{meets, passes, passed, first-kept}
-
-or-left : (a b : Bool) → (a || b) ≡ false → a ≡ false
-or-left false b e = refl
-or-left true b e = e
-
-or-right : (a b : Bool) → (a || b) ≡ false → b ≡ false
-or-right false b e = e
-or-right true b e = absurd (subst T e tt)
 
 pub rings-right : (rings : ℕ) → ringsWrong rings ≡ false → (1 ≤ rings) × (rings ≤ 3)
 rings-right rings e =
@@ -68,6 +61,28 @@ counts-right points m o e =
       opponent-high = ltb-false 9 o (or-right (a || b || c) d e4);
       stones-fit = ltb-false points (m + o) (or-right (a || b || c || d) f e);
     }
+
+-- right arguments meet no condition
+pub rings-fine : (rings : ℕ) → 1 ≤ rings → rings ≤ 3 → ringsWrong rings ≡ false
+rings-fine rings l h = rw (le-ltb rings 1 l, le-ltb 3 rings h)
+
+pub length-fine : (rings n : ℕ) → n ≡ 8 * rings → lengthWrong rings n ≡ false
+length-fine rings n e = ap not (eq-eqb n (8 * rings) e)
+
+pub values-fine : (b : List ℕ) → Values b → valueWrong b ≡ false
+unfolding valueWrong
+values-fine [] v = refl
+values-fine (x ∷ b) v = rw (le-ltb 2 x (v .0)) (values-fine b (v .1))
+
+pub counts-fine : (points m o : ℕ) → Counted points m o → countsWrong points m o ≡ false
+counts-fine points m o w =
+    rw (
+      le-ltb m 3 (w .mover-low),
+      le-ltb 9 m (w .mover-high),
+      le-ltb o 3 (w .opponent-low),
+      le-ltb 9 o (w .opponent-high),
+      le-ltb points (m + o) (w .stones-fit),
+    )
 
 -- an accepted board
 pub record Accepted (rings : ℕ) (b : List ℕ) : Type 0 where

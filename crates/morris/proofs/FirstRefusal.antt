@@ -1,6 +1,6 @@
 -- The first refusal among picked rows: the row at which a call is turned back, and what an accepted call has passed. Assumes nothing.
-use mathlib.Core.Path.{_≡_, refl, _∙_}
-use mathlib.Core.Bool.{Bool, true, false, false≢true}
+use mathlib.Core.Path.{_≡_, refl, sym, _∙_}
+use mathlib.Core.Bool.{Bool, true, false, cond, false≢true}
 use mathlib.Core.List.{List, [], _∷_, _++_}
 use Prim.Native.Nat.{ℕ, zero, suc}
 use native.Mathlib.Omega.{arith}
@@ -60,3 +60,17 @@ first-kept (r ∷ rs) ss n z e = go (r .holds) refl (first-kept rs ss n z)
     go : (h : Bool) → r .holds ≡ h → (n ≡ first rs → n ≡ first (rs ++ ss)) → n ≡ first (r ∷ rs ++ ss)
     go true p rest = e ∙ rw (p, first)
     go false p rest = rw (p, first) (rest (rw (p, first) at e))
+
+-- where some rows are passed, one row more decides
+pub one-more : (rs : List Picked) (t : Bool) (n : ℕ) → all (λ r. ltb 0 (r .number)) rs ≡ true → 0 ≡ first rs
+    → first (rs ++ (record { holds = t; number = n } ∷ [])) ≡ cond t n 0
+one-more rs t n a e = go rs (passed rs a (sym e)) ∙ alone t
+  where
+    go : (rs : List Picked) → Passed (length rs) rs
+        → first (rs ++ (record { holds = t; number = n } ∷ [])) ≡ first (record { holds = t; number = n } ∷ [])
+    go [] p = refl
+    go (r ∷ rs) p = rw (p .0, first) (go rs (p .1))
+
+    alone : (t : Bool) → first (record { holds = t; number = n } ∷ []) ≡ cond t n 0
+    alone true = refl
+    alone false = refl

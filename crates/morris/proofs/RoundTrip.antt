@@ -1,45 +1,23 @@
 -- The two calls undo each other (demand 2): an accepted board is what `unrank` writes for the rank that `rank` answers, and the board that
 -- `unrank` writes has the rank that was asked for. Assumes nothing.
-use mathlib.Core.Path.{_≡_, refl, sym, ap, _∙_, subst}
-use mathlib.Core.Bool.{false, not}
+use mathlib.Core.Path.{_≡_, sym, ap, _∙_, subst}
 use mathlib.Core.List.{List, [], _∷_}
-use Prim.Native.Nat.{ℕ, zero, suc, _+_, _*_, _≤_, _<_}
+use Prim.Native.Nat.{ℕ, _*_, _<_}
 use lib.ListN.{length}
-use borrow.Author.Tests.{le-ltb, eq-eqb, lt-leb}
-use Rattle.board.specs.Board.{Values, count}
+use borrow.Author.Tests.{lt-leb}
+use Rattle.board.specs.Board.{count}
 use Rattle.sizes.specs.Size.{size}
 use Rattle.ranking.specs.Rank.{rank}
 use Rattle.ranking.specs.Unrank.{unrank}
 use Rattle.ranking.proofs.Inverse.{rank-unrank, unrank-rank, rank-low}
 use Rattle.morris.specs.Refusals.{table, pickedRows, refusal}
-use Rattle.morris.specs.Conditions.{boardPicks, rankPicks, ringsWrong, lengthWrong, valueWrong, countsWrong}
+use Rattle.morris.specs.Conditions.{boardPicks, rankPicks}
 use Rattle.morris.specs.Answers.{accepted, answer, number, target}
 use Rattle.morris.specs.RankCall.{rankCall}
 use Rattle.morris.specs.UnrankCall.{unrankCall, unrankTarget}
 use Rattle.morris.proofs.FirstRefusal.{passes}
-use Rattle.morris.proofs.Conditions.{Counted, accepted-board, accepted-rank}
-use Rattle.morris.proofs.Answering.{answer-accepted, target-written}
-
--- a call that is accepted meets no refusal
-number-none : (r : ℕ) (vs : List ℕ) → number (answer r vs) ≡ 0 → r ≡ 0
-number-none zero vs e = refl
-number-none (suc r) vs e = e
-
--- right arguments meet no condition
-rings-fine : (rings : ℕ) → 1 ≤ rings → rings ≤ 3 → ringsWrong rings ≡ false
-rings-fine rings l h = rw (le-ltb rings 1 l, le-ltb 3 rings h)
-
-length-fine : (rings n : ℕ) → n ≡ 8 * rings → lengthWrong rings n ≡ false
-length-fine rings n e = ap not (eq-eqb n (8 * rings) e)
-
-values-fine : (b : List ℕ) → Values b → valueWrong b ≡ false
-unfolding valueWrong
-values-fine [] v = refl
-values-fine (x ∷ b) v = rw (le-ltb 2 x (v .0)) (values-fine b (v .1))
-
-counts-fine : (points m o : ℕ) → Counted points m o → countsWrong points m o ≡ false
-counts-fine points m o w =
-    rw (le-ltb m 3 (w .mover-low), le-ltb 9 m (w .mover-high), le-ltb o 3 (w .opponent-low), le-ltb 9 o (w .opponent-high), le-ltb points (m + o) (w .stones-fit))
+use Rattle.morris.proofs.Conditions.{accepted-board, accepted-rank, rings-fine, length-fine, values-fine, counts-fine}
+use Rattle.morris.proofs.Answering.{answer-accepted, target-written, number-none}
 
 -- from a board to its rank and back, into any target of the right length
 pub rank-then-unrank : (rings : ℕ) (b old : List ℕ) → number (rankCall rings b) ≡ 0 → length old ≡ 8 * rings

@@ -6,7 +6,8 @@ use lib.Dec.{eqb, leb, ltb}
 use lib.ListN.{length}
 use Rattle.board.specs.Board.{count}
 use Rattle.sizes.specs.Size.{size}
-use Rattle.morris.specs.Refusals.{Pick, pick, wrongRings, wrongLength, wrongValue, wrongCounts, wrongTarget, wrongRank}
+use Rattle.frames.specs.Frame.{frameWrong, frameLength, ringsIn, boardIn}
+use Rattle.morris.specs.Refusals.{Pick, pick, wrongFrame, wrongRings, wrongLength, wrongValue, wrongCounts, wrongTarget, shortTarget, wrongRank}
 
 -- 1: not 1, 2 or 3
 abbrev pub ringsWrong : ℕ → Bool
@@ -46,3 +47,28 @@ countsPicks rings m o room =
 -- and for a rank besides
 abbrev pub rankPicks : ℕ → ℕ → ℕ → ℕ → ℕ → List Pick
 rankPicks rings m o r room = pick wrongRank (rankWrong (8 * rings) m o r) ∷ countsPicks rings m o room
+
+-- 2: the length of a frame is not that of its rings
+abbrev pub frameLengthWrong : ℕ → ℕ → Bool
+frameLengthWrong rings n = not (eqb n (frameLength rings))
+
+-- 7: a target shorter than what it is to hold
+abbrev pub targetShort : ℕ → ℕ → Bool
+targetShort room n = ltb room n
+
+-- what a call picks for a frame
+abbrev pub framePicks : List ℕ → List Pick
+framePicks f =
+    pick wrongFrame (frameWrong f)
+    ∷ pick wrongRings (ringsWrong (ringsIn f))
+    ∷ pick wrongLength (frameLengthWrong (ringsIn f) (length f))
+    ∷ pick wrongValue (valueWrong (boardIn f))
+    ∷ []
+
+-- and for its stones besides
+abbrev pub readPicks : List ℕ → List Pick
+readPicks f = pick wrongCounts (countsWrong (8 * ringsIn f) (count 1 (boardIn f)) (count 2 (boardIn f))) ∷ framePicks f
+
+-- what a call picks for rings, a board and a target of so many characters that is to hold its frame
+abbrev pub writePicks : ℕ → List ℕ → ℕ → List Pick
+writePicks rings b room = pick shortTarget (targetShort room (frameLength rings)) ∷ boardPicks rings b

@@ -2,11 +2,14 @@
 //
 // Every call answers on every input: its result, or the number of the first refusal of document 01's table that it meets, and then each lent
 // buffer is as it was. `docs/PROMISES.md` says which sentence of the papers each contract states.
+mod reader;
 mod refusals;
 
 ghost use mathlib.Core.Path.{_≡_};
 ghost use Rattle.morris.specs.RankCall.{ranked, rankCall};
 ghost use Rattle.morris.specs.UnrankCall.{unranked, unrankCall, unrankTarget};
+ghost use Rattle.morris.specs.ReadFrameCall.{frameRead, readFrameCall};
+ghost use Rattle.morris.specs.WriteFrameCall.{frameWritten, writeFrameCall, writeFrameTarget};
 
 // The rank of a board, or the number of a refusal.
 pub enum Ranked {
@@ -56,4 +59,60 @@ pub fn unrank(rings: u8, mover: u8, opponent: u8, rank: u64, target: &mut [u8]) 
     );
     board::write_board(position, target);
     Unranked::Written
+}
+
+// A frame taken apart: a position as two point sets, or the number of a refusal.
+pub enum Frame {
+    Position {
+        rings: u8,
+        mover: u32,
+        opponent: u32,
+    },
+    Refused(u8),
+}
+
+// Reads a frame: the rings, the points of the side to move, those of the other side. Refusals: 14, 1, 2, 3, 4.
+pub fn read_frame(frame: &[u8]) -> Frame
+    ensures { λ r. ⌜ frameRead r ≡ readFrameCall (now (frame .entry)) ⌝ }
+{
+    let read = reader::take_apart(frame);
+    let Frame::Position {
+        rings,
+        mover,
+        opponent,
+    } = read
+    else {
+        return Frame::Refused(reader::number_of(read));
+    };
+    if refusals::sides_wrong(8 * rings as u32, mover, opponent) {
+        return Frame::Refused(refusals::COUNTS);
+    }
+    Frame::Position {
+        rings,
+        mover,
+        opponent,
+    }
+}
+
+// How many characters were written, or the number of a refusal.
+pub enum Framed {
+    Length(usize),
+    Refused(u8),
+}
+
+// Writes rings and a board as a frame over the start of the target: 6, 10 or 14 characters. Refusals: 1, 2, 3, 4, 7.
+pub fn write_frame(rings: u8, board: &[u8], target: &mut [u8]) -> Framed
+    ensures answer { λ r. ⌜ frameWritten r ≡ writeFrameCall rings (now (board .entry)) (now (target .entry)) ⌝ }
+    ensures target { λ _. ⌜ now (target .exit) ≡ writeFrameTarget rings (now (board .entry)) (now (target .entry)) ⌝ }
+{
+    let refusal = refusals::of_board(rings, board);
+    if refusal != 0 {
+        return Framed::Refused(refusal);
+    }
+    let length = frames::frame_length(rings);
+    if target.len() < length {
+        return Framed::Refused(refusals::SHORT_TARGET);
+    }
+    frames::write(rings, board, target);
+    Framed::Length(length)
 }

@@ -2,9 +2,10 @@
 ghost use mathlib.Core.Path.{_≡_};
 ghost use Prim.Native.Nat.{_≤_};
 ghost use lib.ListN.{length};
+ghost use Rattle.sets.specs.Sets.{members};
 ghost use Rattle.board.specs.Board.{count};
 ghost use Rattle.morris.specs.Refusals.{refusal};
-ghost use Rattle.morris.specs.Conditions.{ringsWrong, valueWrong, countsWrong, boardPicks, countsPicks};
+ghost use Rattle.morris.specs.Conditions.{ringsWrong, valueWrong, countsWrong, boardPicks, countsPicks, framePicks};
 
 // The refusal numbers of document 01.
 const RINGS: u8 = 1;
@@ -13,11 +14,15 @@ const BOARD_LENGTH: u8 = 2;
 
 const BOARD_VALUE: u8 = 3;
 
-const COUNTS: u8 = 4;
+pub const COUNTS: u8 = 4;
 
 pub const RANK: u8 = 5;
 
 const TARGET_LENGTH: u8 = 6;
+
+pub const SHORT_TARGET: u8 = 7;
+
+const FRAME: u8 = 14;
 
 // Rings other than 1, 2 or 3.
 fn rings_wrong(rings: u8) -> bool
@@ -47,15 +52,20 @@ fn counts_wrong(points: u32, m: u32, o: u32) -> bool
     (m < 3) | (9 < m) | (o < 3) | (9 < o) | (points < m + o)
 }
 
+// The counts of a position's stones.
+pub fn sides_wrong(points: u32, mover: u32, opponent: u32) -> bool
+    ensures { λ r. ⌜ r ≡ countsWrong points (members mover 32) (members opponent 32) ⌝ }
+{
+    counts_wrong(points, sets::count(mover), sets::count(opponent))
+}
+
 // The counts of a board's stones.
 fn stones_wrong(points: u32, board: &[u8]) -> bool
     requires { ⌜ length (now board) ≤ 24 ⌝ }
     ensures { λ r. ⌜ r ≡ countsWrong points (count 1 (now (board .entry))) (count 2 (now (board .entry))) ⌝ }
 {
     let position = board::position_of(board);
-    let mover = position.mover;
-    let opponent = position.opponent;
-    counts_wrong(points, sets::count(mover), sets::count(opponent))
+    sides_wrong(points, position.mover, position.opponent)
 }
 
 // The first refusal that rings and a board meet, or 0.
@@ -91,6 +101,27 @@ pub fn of_counts(rings: u8, mover: u8, opponent: u8, room: usize) -> u8
     }
     if room != points {
         return TARGET_LENGTH;
+    }
+    0
+}
+
+// The first refusal that a frame meets before its stones are counted, or 0.
+pub fn of_frame(frame: &[u8]) -> u8
+    ensures { λ r. ⌜ r ≡ refusal (framePicks (now (frame .entry))) ⌝ }
+{
+    if frames::frame_wrong(frame) {
+        return FRAME;
+    }
+    let rings = frames::rings_of(frame);
+    if rings_wrong(rings) {
+        return RINGS;
+    }
+    if frame.len() != frames::frame_length(rings) {
+        return BOARD_LENGTH;
+    }
+    // a value above 2 in two bits is a 3
+    if frames::points_with(frame, 3) != 0 {
+        return BOARD_VALUE;
     }
     0
 }

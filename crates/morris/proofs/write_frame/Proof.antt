@@ -1,0 +1,99 @@
+-- `morris::write_frame` meets its contract: a refusal of the board's picks, then of the target, or the frame. Assumes nothing.
+use mathlib.Core.Path.{_≡_, sym, ap, _∙_}
+use mathlib.Core.Bool.{Bool, cond}
+use mathlib.Core.List.{List, [], _∷_}
+use Prim.Native.Nat.{ℕ}
+use native.Mathlib.Omega.{arith}
+use lib.ListN.{length}
+use lib.Seq.{sets}
+use borrow.Author.Tests.{lt-ltb, le-ltb}
+use borrow.Author.Needs.{needs}
+use Rattle.frames.specs.Frame.{frameLength, frameOf}
+use Rattle.morris.specs.Refusals.{refusal}
+use Rattle.morris.specs.Conditions.{boardPicks, writePicks}
+use Rattle.morris.specs.Answers.{accepted, refused}
+use Rattle.morris.specs.WriteFrameCall.{writeFrameCall, writeFrameTarget}
+use Rattle.morris.proofs.Conditions.{accepted-board}
+use Rattle.morris.proofs.FrameConditions.{board-refused, room-decides}
+use Rattle.morris.proofs.Answering.{answer-refused, answer-accepted, target-kept, target-written}
+use Rattle.morris.proofs.write_frame.Statement.{statement}
+use Rattle.morris.proofs.write_frame.Tie as tie
+
+-- the two ways out: turned back with a number, and written
+module _ (rings : ℕ) (b old : List ℕ) where
+  turned-back : (n : ℕ) → (n ≡ 0 → ⊥) → n ≡ refusal (writePicks rings b (length old))
+      → (refused n ≡ writeFrameCall rings b old) × (old ≡ writeFrameTarget rings b old)
+  unfolding writeFrameCall writeFrameTarget
+  turned-back n z e = (
+    answer-refused n (refusal (writePicks rings b (length old))) (frameLength rings ∷ []) z e,
+    target-kept n (refusal (writePicks rings b (length old))) (sets old 0 (frameOf rings b)) old z e,
+  )
+
+  written : (n : ℕ) (new : List ℕ) → 0 ≡ refusal (writePicks rings b (length old)) → n ≡ frameLength rings → new ≡ sets old 0 (frameOf rings b)
+      → (accepted (n ∷ []) ≡ writeFrameCall rings b old) × (new ≡ writeFrameTarget rings b old)
+  unfolding writeFrameCall writeFrameTarget
+  written n new z l e = (
+    ap (λ (k : ℕ). accepted (k ∷ [])) l ∙ answer-accepted (refusal (writePicks rings b (length old))) (frameLength rings ∷ []) z,
+    e ∙ target-written (refusal (writePicks rings b (length old))) (sets old 0 (frameOf rings b)) old z,
+  )
+
+-- past the first refusals, the board is accepted
+passed-board : (c : tie.Else1)
+    → 0 ≡ refusal (boardPicks (c .before .before .before .before .args .rings) (c .before .before .before .before .args .board .now))
+passed-board c = sym (c .if1 .left) ∙ c .before .of-board .ensures
+
+of-board-requires : tie.Need-of-board-requires
+of-board-requires c κs = search needs
+
+returns : tie.Need-returns
+returns c =
+    let a = c .before .before .before .before .args in
+    let n = c .before .of-board .result in
+    turned-back (a .rings) (a .board .now) (a .target .now) n (c .if1 .taken)
+    (board-refused (a .rings) (a .board .now) (length (a .target .now)) n (c .if1 .taken) (c .before .of-board .ensures))
+
+frame-length-requires : tie.Need-frame-length-requires
+frame-length-requires c κs = search needs
+
+returns-2 : tie.Need-returns-2
+returns-2 c =
+    let x = c .before .before in
+    let a = x .before .before .before .before .args in
+    let n = length (a .target .now) in
+    let short = lt-ltb n (frameLength (a .rings)) (omega (arith, c .if2 .taken, c .before .frame-length .ensures)) in
+    turned-back (a .rings) (a .board .now) (a .target .now) 7 (λ z. absurd (omega arith))
+    (sym (room-decides (a .rings) (a .board .now) n (passed-board x) ∙ ap (λ (t : Bool). cond t 7 0) short))
+
+write-requires : tie.Need-write-requires
+write-requires c κs =
+    let y = c .before in
+    let x = y .before .before in
+    let a = x .before .before .before .before .args in
+    let w = accepted-board (a .rings) (a .board .now) (sym (passed-board x)) in
+    (w .rings-high, w .points, w .values, omega (arith, y .if2 .left, y .before .frame-length .ensures))
+
+same-length : tie.Need-same-length
+same-length c = search needs
+
+returns-3 : tie.Need-returns-3
+returns-3 c =
+    let y = c .before .before .before .before in
+    let x = y .before .before in
+    let a = x .before .before .before .before .args in
+    let n = length (a .target .now) in
+    let fits = le-ltb n (frameLength (a .rings)) (omega (arith, y .if2 .left, y .before .frame-length .ensures)) in
+    written (a .rings) (a .board .now) (a .target .now) (y .before .frame-length .result) (c .before .before .write .last .1 .1 .0)
+    (sym (room-decides (a .rings) (a .board .now) n (passed-board x) ∙ ap (λ (t : Bool). cond t 7 0) fits))
+    (y .before .frame-length .ensures) (c .before .before .write .ensures)
+
+pub write-frame-spec : {M : Type 1} → statement M
+write-frame-spec =
+    tie.close
+    (tie.spec
+    of-board-requires
+    returns
+    frame-length-requires
+    returns-2
+    write-requires
+    same-length
+    returns-3)
