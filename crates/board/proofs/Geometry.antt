@@ -4,15 +4,17 @@ use mathlib.Core.Path.{_≡_, refl, subst}
 use mathlib.Core.Bool.{Bool, true, not}
 use mathlib.Core.List.{[], _∷_}
 use Prim.Native.Nat.{ℕ, zero, suc, _+_, _*_, _-_, _/_, _≤_, _<_}
+use native.Mathlib.Nat.{zero-add}
 use native.Mathlib.Omega.{arith}
-use lib.Dec.{eqb, ltb}
-use lib.ListN.{length, take}
-use borrow.Author.Tests.{ltb-true, eqb-false, not-true}
+use lib.Dec.{eqb, ltb, leb}
+use lib.ListN.{length, take, getD}
+use borrow.Author.Tests.{ltb-true, leb-true, eqb-false, not-true}
 use Rattle.lists.specs.Lists.{range, keep, all, each}
 use Rattle.board.specs.Geometry.{points, follows, inward, adjoin, neighbours, ringMills, crossMills, mills}
 use Rattle.board.specs.Tables.{millPoint}
 use Rattle.lists.proofs.Table.{passed}
 use Rattle.lists.proofs.Keep.{keep-below}
+use Rattle.lists.proofs.Members.{keep-member, range-member, getD-member}
 
 -- 4, 8 and 16 mills
 pub mill-counts : (length (mills 1) ∷ length (mills 2) ∷ length (mills 3) ∷ []) ≡ 4 ∷ 8 ∷ 16 ∷ []
@@ -71,3 +73,18 @@ mill-points i h =
 
     differ : (j k : ℕ) → all (apart j k) (range 0 16) ≡ true → millPoint i j ≡ millPoint i k → ⊥
     differ j k t = eqb-false _ _ (not-true _ (passed (apart j k) 16 0 i t (omega arith) (omega arith)))
+
+-- a point has four neighbours at the most, all of them points
+fewAt : ℕ → Bool
+fewAt p = leb (length (neighbours 3 p)) 4
+
+pub neighbours-few : (p : ℕ) → p < 24 → length (neighbours 3 p) ≤ 4
+unfolding fewAt neighbours points adjoin follows inward
+neighbours-few p h = leb-true _ _ (passed fewAt 24 0 p refl (omega arith) (omega arith))
+
+pub neighbour-low : (p j : ℕ) → j < length (neighbours 3 p) → getD (neighbours 3 p) j 0 < 24
+unfolding neighbours points
+neighbour-low p j h =
+    let m = keep-member (λ q. adjoin p q) (points 3) (getD-member (neighbours 3 p) j h) in
+    let r : getD (neighbours 3 p) j 0 < 0 + 24 = range-member 24 0 (m .0) .1 in
+    subst (λ (n : ℕ). getD (neighbours 3 p) j 0 < n) (zero-add 24) r

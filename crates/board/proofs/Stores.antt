@@ -2,7 +2,7 @@
 use mathlib.Core.Path.{_≡_, refl, sym, ap, subst, _∙_}
 use mathlib.Core.Bool.{Bool, true, false}
 use mathlib.Core.List.{List, [], _∷_}
-use Prim.Native.Nat.{ℕ, zero, suc, _+_, _*_, _^_, _≤_, _<_}
+use Prim.Native.Nat.{ℕ, zero, suc, _+_, _^_, _≤_, _<_}
 use native.Mathlib.Nat.{pow-suc}
 use native.Mathlib.Omega.{arith}
 use lib.Dec.{eqb}
@@ -15,7 +15,7 @@ use Rattle.lists.proofs.Tests.{keep-same}
 use Rattle.sets.specs.Sets.{bit, has, with, without, elements}
 use Rattle.sets.proofs.Laws.{same-set, bit-with-same, bit-with-other, bit-without-same, bit-without-other, with-lt, without-le}
 use Rattle.board.specs.Board.{Values, digit, setOf}
-use Rattle.board.proofs.Sides.{set-lt, bit-set, digit-lt}
+use Rattle.board.proofs.Sides.{set-lt, bit-set}
 
 digit-is : (b : Bool) → eqb (digit b) 1 ≡ b
 digit-is true = refl

@@ -1,6 +1,6 @@
 -- How many moves a board can have: 324 at the most, nine stones of four neighbours or three of all vacant points, each with up to nine removals.
 -- Assumes nothing.
-use mathlib.Core.Path.{_≡_, refl, sym, ap, subst, _∙_}
+use mathlib.Core.Path.{_≡_, refl, ap, subst, _∙_}
 use mathlib.Core.Bool.{Bool, true, false, not, _||_}
 use mathlib.Core.List.{List, [], _∷_, List·Memᴰ}
 use Prim.Native.Nat.{ℕ, _+_, _-_, _*_, _≤_, _<_}
@@ -19,9 +19,8 @@ use Rattle.board.specs.Geometry.{points, adjoin, neighbours}
 use Rattle.board.specs.Board.{Values, count, setOf}
 use Rattle.board.proofs.Sides.{members-count}
 use Rattle.board.proofs.Counts.{count-all}
-use Rattle.board.proofs.Geometry.{neighbours-within}
+use Rattle.board.proofs.Geometry.{neighbours-within, neighbours-few}
 use Rattle.rules.specs.Ply.{holds, holding, inMill, targets, slide, unshielded, removable, noRemoval, removals, moveNumber, slideMoves, stoneMoves, moves}
-use Rattle.rules.proofs.Derived.{neighbours-few}
 use Rattle.rules.proofs.Listed.{holding-is, target-vacant}
 use Rattle.rules.proofs.Leads.{slide-length, slide-counts}
 use Rattle.rules.proofs.OnSets.{holding-set}

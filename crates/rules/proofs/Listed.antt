@@ -9,7 +9,6 @@ use native.Mathlib.Omega.{arith}
 use lib.Dec.{eqb}
 use lib.ListN.{getD}
 use borrow.Author.Tests.{eqb-true, eq-eqb}
-use Rattle.lists.specs.Lists.{orElse}
 use Rattle.lists.proofs.Members.{keep-member, member-keep, each-member, member-each, map-member, member-map, range-member, member-range, orElse-cases}
 use Rattle.board.specs.Geometry.{points, adjoin}
 use Rattle.board.specs.Board.{count}

@@ -1,23 +1,22 @@
 -- The definitions of a ply on a board's sets: where the stones are, what a slide leaves, who may be removed and where a stone may go. The functions
 -- work on these. Assumes nothing.
 use mathlib.Core.Path.{_≡_, refl, sym, ap, ap₂, subst, _∙_}
-use mathlib.Core.Bool.{Bool, true, false, not, _||_}
+use mathlib.Core.Bool.{true, false, not, _||_}
 use mathlib.Core.List.{List, [], _∷_, List·Memᴰ}
-use mathlib.Core.Logic.{_⊎_, inl, inr, ⊎-elim}
-use Prim.Native.Nat.{ℕ, suc, _+_, _*_, _^_, _≤_, _<_, min}
+use mathlib.Core.Logic.{_⊎_, inl, inr}
+use Prim.Native.Nat.{ℕ, _*_, _^_, _≤_, _<_, min}
 use native.Mathlib.Nat.{lt-of-lt-of-le}
 use native.Mathlib.Omega.{arith}
 use lib.Bits.{bitAnd, and-le-l}
 use lib.Dec.{eqb}
 use lib.ListN.{length, getD, set, length-set}
-use lib.Seq.{getD-set-other}
 use lib.Pow.{pow-mono}
-use borrow.Author.Tests.{eqb-true, eq-eqb, ne-eqb}
+use borrow.Author.Tests.{eq-eqb, ne-eqb}
 use Rattle.lists.specs.Lists.{range, keep, orElse}
-use Rattle.lists.proofs.Members.{keep-member, member-keep, range-member, member-range}
+use Rattle.lists.proofs.Members.{keep-member, member-keep, member-range}
 use Rattle.lists.proofs.Tests.{keep-same}
 use Rattle.sets.specs.Sets.{bit, has, with, without, elements, withAll, setFrom}
-use Rattle.sets.proofs.Laws.{bit-and, bit-lt, bit-cases, same-set, without-absent}
+use Rattle.sets.proofs.Laws.{bit-and, bit-cases, same-set, without-absent}
 use Rattle.sets.proofs.Elements.{elements-is, is-element, elements-more, from-elements, from-lt, bit-from, from-bit, from-first, from-second}
 use Rattle.board.specs.Geometry.{points, adjoin, neighbours}
 use Rattle.board.specs.Board.{count, digit, setOf}
@@ -26,7 +25,7 @@ use Rattle.board.proofs.Stores.{has-set, elements-set, set-with, set-without}
 use Rattle.rules.specs.Ply.{holds, holding, inMill, targets, slide, unshielded, removable, noRemoval, removals}
 use Rattle.rules.proofs.Listed.{target-vacant}
 use Rattle.rules.proofs.Leads.{slide-length}
-use Rattle.rules.proofs.FullMills.{in-mill-same}
+use Rattle.rules.proofs.Mills.{in-mill-same}
 
 module _ (rings : ℕ) (small : rings ≤ 3) (b : List ℕ) (whole : length b ≡ 8 * rings) where
   -- a board's sets are sets of its points

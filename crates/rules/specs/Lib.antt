@@ -1,3 +1,1 @@
 pub mod Ply
-pub mod Masks
-pub mod Positions

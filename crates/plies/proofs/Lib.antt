@@ -1,0 +1,5 @@
+pub mod Derived
+pub mod FullMills
+pub mod Numbers
+pub mod OnPositions
+pub mod Stones
