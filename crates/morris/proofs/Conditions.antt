@@ -1,6 +1,6 @@
 -- What the conditions say where they do not hold, and the step of the loop that looks for a wrong value. Assumes nothing.
 use mathlib.Core.Path.{_≡_, refl, sym, ap, _∙_}
-use mathlib.Core.Bool.{false, not, _||_}
+use mathlib.Core.Bool.{false, cond, not, _||_}
 use mathlib.Core.List.{List, [], _∷_}
 use Prim.Native.Nat.{ℕ, suc, _+_, _-_, _*_, _≤_, _<_}
 use native.Mathlib.Omega.{arith}
@@ -12,8 +12,8 @@ use Rattle.lists.proofs.Tests.{or-left, or-right}
 use Rattle.board.specs.Board.{Values, count}
 use Rattle.sizes.specs.Size.{size}
 use Rattle.morris.specs.Refusals.{table, pickedRows, refusal}
-use Rattle.morris.specs.Conditions.{boardPicks, countsPicks, rankPicks, ringsWrong, lengthWrong, valueWrong, countsWrong, rankWrong}
-use Rattle.morris.proofs.FirstRefusal.{meets, passes, passed, first-kept}
+use Rattle.morris.specs.Conditions.{boardPicks, countsPicks, rankPicks, shortPicks, targetPicks, movePicks, ringsWrong, lengthWrong, valueWrong, countsWrong, rankWrong, targetShort, moveWrong}
+use Rattle.morris.proofs.FirstRefusal.{meets, passes, passed, first-kept, one-more}
 
 pub rings-right : (rings : ℕ) → ringsWrong rings ≡ false → (1 ≤ rings) × (rings ≤ 3)
 rings-right rings e =
@@ -151,3 +151,33 @@ module _ (rings m o r room : ℕ) (e : 0 ≡ refusal (countsPicks rings m o room
   rank-passed h =
       let p = passed (pickedRows table (countsPicks rings m o room)) refl (sym e) in
       passes (pickedRows table (rankPicks rings m o r room)) (p .0, (p .1 .0, (p .1 .1 .0, (lt-leb (size (8 * rings) m o) r h, tt))))
+
+-- a target that is to hold so many places comes after the board
+module _ (rings : ℕ) (b : List ℕ) (room needed : ℕ) where
+  pub short-refused : (n : ℕ) → (n ≡ 0 → ⊥) → n ≡ refusal (boardPicks rings b) → n ≡ refusal (shortPicks rings b room needed)
+  short-refused n z e = first-kept (pickedRows table (boardPicks rings b)) (record { holds = targetShort room needed; number = 7 } ∷ []) n z e
+
+  pub short-decides : 0 ≡ refusal (boardPicks rings b) → refusal (shortPicks rings b room needed) ≡ cond (targetShort room needed) 7 0
+  short-decides e = one-more (pickedRows table (boardPicks rings b)) (targetShort room needed) 7 refl e
+
+-- so does a target board
+module _ (rings : ℕ) (b : List ℕ) (room : ℕ) where
+  pub target-refused : (n : ℕ) → (n ≡ 0 → ⊥) → n ≡ refusal (boardPicks rings b) → n ≡ refusal (targetPicks rings b room)
+  target-refused n z e = first-kept (pickedRows table (boardPicks rings b)) (record { holds = lengthWrong rings room; number = 6 } ∷ []) n z e
+
+  pub target-decides : 0 ≡ refusal (boardPicks rings b) → refusal (targetPicks rings b room) ≡ cond (lengthWrong rings room) 6 0
+  target-decides e = one-more (pickedRows table (boardPicks rings b)) (lengthWrong rings room) 6 refl e
+
+  -- and a move after that
+  pub move-refused : (move n : ℕ) → (n ≡ 0 → ⊥) → n ≡ refusal (targetPicks rings b room) → n ≡ refusal (movePicks rings b move room)
+  move-refused move n z e = first-kept (pickedRows table (targetPicks rings b room)) (record { holds = moveWrong rings b move; number = 8 } ∷ []) n z e
+
+  pub move-decides : (move : ℕ) → 0 ≡ refusal (targetPicks rings b room) → refusal (movePicks rings b move room) ≡ cond (moveWrong rings b move) 8 0
+  move-decides move e = one-more (pickedRows table (targetPicks rings b room)) (moveWrong rings b move) 8 refl e
+
+  pub accepted-target : refusal (targetPicks rings b room) ≡ 0 → Accepted rings b × (room ≡ 8 * rings)
+  accepted-target e =
+      let p = passed (pickedRows table (targetPicks rings b room)) refl e in (
+        accepted-board rings b (sym (passes (pickedRows table (boardPicks rings b)) (p .0, (p .1 .0, (p .1 .1 .0, (p .1 .1 .1 .0, tt)))))),
+        length-right rings room (p .1 .1 .1 .1 .0),
+      )

@@ -14,7 +14,7 @@ use Rattle.board.proofs.Sides.{members-count}
 use Rattle.frames.specs.Frame.{frameWrong, frameLength, ringsIn, boardIn}
 use Rattle.frames.proofs.Characters.{board-length, no-three, three-none}
 use Rattle.morris.specs.Refusals.{table, pickedRows, refusal}
-use Rattle.morris.specs.Conditions.{valueWrong, countsWrong, targetShort, boardPicks, framePicks, readPicks, writePicks}
+use Rattle.morris.specs.Conditions.{valueWrong, countsWrong, boardPicks, framePicks, readPicks}
 use Rattle.morris.specs.ReadFrameCall.{framePosition}
 use Rattle.morris.proofs.FirstRefusal.{passes, passed, first-kept, one-more}
 use Rattle.morris.proofs.Conditions.{rings-right, values-right, length-fine, values-fine}
@@ -83,12 +83,3 @@ board-accepted f e =
     let w = accepted-frame f (sym (passes (pickedRows table (framePicks f)) (p .0, (p .1 .0, (p .1 .1 .0, (p .1 .1 .1 .0, tt)))))) in
     sym (passes (pickedRows table (boardPicks (ringsIn f) (boardIn f)))
     (p .1 .0, (length-fine (ringsIn f) (length (boardIn f)) (w .points), (p .1 .1 .1 .0, (p .1 .1 .1 .1 .0, tt)))))
-
--- the target of a frame comes last
-module _ (rings : ℕ) (b : List ℕ) (room : ℕ) where
-  pub board-refused : (n : ℕ) → (n ≡ 0 → ⊥) → n ≡ refusal (boardPicks rings b) → n ≡ refusal (writePicks rings b room)
-  board-refused n z e =
-      first-kept (pickedRows table (boardPicks rings b)) (record { holds = targetShort room (frameLength rings); number = 7 } ∷ []) n z e
-
-  pub room-decides : 0 ≡ refusal (boardPicks rings b) → refusal (writePicks rings b room) ≡ cond (targetShort room (frameLength rings)) 7 0
-  room-decides e = one-more (pickedRows table (boardPicks rings b)) (targetShort room (frameLength rings)) 7 refl e

@@ -13,13 +13,13 @@ use Rattle.board.proofs.Sides.{board-position, position-sides}
 use Rattle.frames.specs.Frame.{frameLength, ringsIn, boardIn, frameOf}
 use Rattle.frames.proofs.RoundTrip.{rings-back, board-back, length-frame, frame-fine, frame-back}
 use Rattle.morris.specs.Refusals.{table, pickedRows, refusal}
-use Rattle.morris.specs.Conditions.{ringsWrong, valueWrong, countsWrong, boardPicks, readPicks, writePicks}
+use Rattle.morris.specs.Conditions.{ringsWrong, valueWrong, countsWrong, boardPicks, readPicks, shortPicks}
 use Rattle.morris.specs.Answers.{accepted, number}
 use Rattle.morris.specs.ReadFrameCall.{framePosition, readFrameCall}
 use Rattle.morris.specs.WriteFrameCall.{writeFrameCall, writeFrameTarget}
 use Rattle.morris.proofs.FirstRefusal.{passes, passed}
-use Rattle.morris.proofs.Conditions.{accepted-board}
-use Rattle.morris.proofs.FrameConditions.{board-accepted, room-decides}
+use Rattle.morris.proofs.Conditions.{accepted-board, short-decides}
+use Rattle.morris.proofs.FrameConditions.{board-accepted}
 use Rattle.morris.proofs.Answering.{answer-accepted, target-written, number-none}
 
 module _ (rings : ℕ) (b : List ℕ) (e : refusal (boardPicks rings b) ≡ 0) where
@@ -70,8 +70,8 @@ pub record Back (rings : ℕ) (b old : List ℕ) : Type 0 where
 pub write-then-read : (rings : ℕ) (b old : List ℕ) → number (writeFrameCall rings b old) ≡ 0 → Back rings b old
 unfolding writeFrameCall writeFrameTarget
 write-then-read rings b old e =
-    let n = number-none (refusal (writePicks rings b (length old))) (frameLength rings ∷ []) e in
-    let p = passed (pickedRows table (writePicks rings b (length old))) refl n in
+    let n = number-none (refusal (shortPicks rings b (length old) (frameLength rings))) (frameLength rings ∷ []) e in
+    let p = passed (pickedRows table (shortPicks rings b (length old) (frameLength rings))) refl n in
     let a : refusal (boardPicks rings b) ≡ 0 =
     sym (passes (pickedRows table (boardPicks rings b)) (p .0, (p .1 .0, (p .1 .1 .0, (p .1 .1 .1 .0, tt))))) in
     let room : frameLength rings ≤ length old = ltb-false (length old) (frameLength rings) (p .1 .1 .1 .1 .0) in
@@ -80,9 +80,9 @@ write-then-read rings b old e =
     let rest : List ℕ = drop (0 + length f) old in
     let beyond : 0 + length f ≡ frameLength rings = omega (arith, l) in
     let t : writeFrameTarget rings b old ≡ f ++ rest =
-    sym (target-written (refusal (writePicks rings b (length old))) (sets old 0 f) old (sym n)) ∙ sets-eq f old 0 (omega (arith, l, room)) in
+    sym (target-written (refusal (shortPicks rings b (length old) (frameLength rings))) (sets old 0 f) old (sym n)) ∙ sets-eq f old 0 (omega (arith, l, room)) in
     record {
-      answers = sym (answer-accepted (refusal (writePicks rings b (length old))) (frameLength rings ∷ []) (sym n));
+      answers = sym (answer-accepted (refusal (shortPicks rings b (length old) (frameLength rings))) (frameLength rings ∷ []) (sym n));
       reads = ap readFrameCall (ap (take (frameLength rings)) t ∙ take-at f rest (frameLength rings) l) ∙ frame-reads rings b a;
       board = position-board rings b a;
       kept = ap (drop (frameLength rings)) t ∙ drop-at f rest (frameLength rings) l ∙ ap (λ (k : ℕ). drop k old) beyond;
@@ -104,13 +104,13 @@ read-then-write f old e room =
     let b = boardIn f in
     let g : frameOf r b ≡ f = frame-back f (p .0) in
     let l : length f ≡ frameLength r = ap length (sym g) ∙ frame-characters r b a in
-    let z : 0 ≡ refusal (writePicks r b (length old)) =
-    sym (room-decides r b (length old) (sym a) ∙ ap (λ (t : Bool). cond t 7 0) (le-ltb (length old) (frameLength r) (omega (arith, l, room)))) in
+    let z : 0 ≡ refusal (shortPicks r b (length old) (frameLength r)) =
+    sym (short-decides r b (length old) (frameLength r) (sym a) ∙ ap (λ (t : Bool). cond t 7 0) (le-ltb (length old) (frameLength r) (omega (arith, l, room)))) in
     let t : sets old 0 (frameOf r b) ≡ f ++ drop (0 + length f) old = ap (sets old 0) g ∙ sets-eq f old 0 (omega (arith, room)) in
     record {
       board = position-board r b a;
-      answers = sym (answer-accepted (refusal (writePicks r b (length old))) (frameLength r ∷ []) z) ∙ ap (λ (k : ℕ). accepted (k ∷ [])) (sym l);
+      answers = sym (answer-accepted (refusal (shortPicks r b (length old) (frameLength r))) (frameLength r ∷ []) z) ∙ ap (λ (k : ℕ). accepted (k ∷ [])) (sym l);
       writes =
-          ap (take (length f)) (sym (target-written (refusal (writePicks r b (length old))) (sets old 0 (frameOf r b)) old z) ∙ t)
+          ap (take (length f)) (sym (target-written (refusal (shortPicks r b (length old) (frameLength r))) (sets old 0 (frameOf r b)) old z) ∙ t)
           ∙ take-at f (drop (0 + length f) old) (length f) refl;
     }

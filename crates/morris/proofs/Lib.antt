@@ -1,5 +1,6 @@
 pub mod FirstRefusal
 pub mod Conditions
+pub mod Positions
 pub mod Answering
 pub mod FrameConditions
 pub mod RoundTrip

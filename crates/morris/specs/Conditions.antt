@@ -6,8 +6,10 @@ use lib.Dec.{eqb, leb, ltb}
 use lib.ListN.{length}
 use Rattle.board.specs.Board.{count}
 use Rattle.sizes.specs.Size.{size}
+use Rattle.lists.specs.Lists.{member}
+use Rattle.rules.specs.Ply.{listedMoves}
 use Rattle.frames.specs.Frame.{frameWrong, frameLength, ringsIn, boardIn}
-use Rattle.morris.specs.Refusals.{Pick, pick, wrongFrame, wrongRings, wrongLength, wrongValue, wrongCounts, wrongTarget, shortTarget, wrongRank}
+use Rattle.morris.specs.Refusals.{Pick, pick, wrongFrame, wrongRings, wrongLength, wrongValue, wrongCounts, wrongTarget, shortTarget, wrongRank, wrongMove}
 
 -- 1: not 1, 2 or 3
 abbrev pub ringsWrong : ℕ → Bool
@@ -48,13 +50,29 @@ countsPicks rings m o room =
 abbrev pub rankPicks : ℕ → ℕ → ℕ → ℕ → ℕ → List Pick
 rankPicks rings m o r room = pick wrongRank (rankWrong (8 * rings) m o r) ∷ countsPicks rings m o room
 
--- 2: the length of a frame is not that of its rings
-abbrev pub frameLengthWrong : ℕ → ℕ → Bool
-frameLengthWrong rings n = not (eqb n (frameLength rings))
-
 -- 7: a target shorter than what it is to hold
 abbrev pub targetShort : ℕ → ℕ → Bool
 targetShort room n = ltb room n
+
+-- 8: not a listed move
+abbrev pub moveWrong : ℕ → List ℕ → ℕ → Bool
+moveWrong rings b move = not (member move (listedMoves rings b))
+
+-- what a call picks for rings, a board and a target of so many places that is to hold so many
+abbrev pub shortPicks : ℕ → List ℕ → ℕ → ℕ → List Pick
+shortPicks rings b room needed = pick shortTarget (targetShort room needed) ∷ boardPicks rings b
+
+-- what a call picks for rings, a board and a target of so many bytes
+abbrev pub targetPicks : ℕ → List ℕ → ℕ → List Pick
+targetPicks rings b room = pick wrongTarget (lengthWrong rings room) ∷ boardPicks rings b
+
+-- and for a move besides
+abbrev pub movePicks : ℕ → List ℕ → ℕ → ℕ → List Pick
+movePicks rings b move room = pick wrongMove (moveWrong rings b move) ∷ targetPicks rings b room
+
+-- 2: the length of a frame is not that of its rings
+abbrev pub frameLengthWrong : ℕ → ℕ → Bool
+frameLengthWrong rings n = not (eqb n (frameLength rings))
 
 -- what a call picks for a frame
 abbrev pub framePicks : List ℕ → List Pick
@@ -68,7 +86,3 @@ framePicks f =
 -- and for its stones besides
 abbrev pub readPicks : List ℕ → List Pick
 readPicks f = pick wrongCounts (countsWrong (8 * ringsIn f) (count 1 (boardIn f)) (count 2 (boardIn f))) ∷ framePicks f
-
--- what a call picks for rings, a board and a target of so many characters that is to hold its frame
-abbrev pub writePicks : ℕ → List ℕ → ℕ → List Pick
-writePicks rings b room = pick shortTarget (targetShort room (frameLength rings)) ∷ boardPicks rings b

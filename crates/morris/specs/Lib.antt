@@ -3,6 +3,8 @@ pub mod Conditions
 pub mod Answers
 pub mod RankCall
 pub mod UnrankCall
+pub mod MovesCall
+pub mod MakeMoveCall
 pub mod ReadFrameCall
 pub mod WriteFrameCall
 pub mod Cases

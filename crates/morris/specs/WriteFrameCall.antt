@@ -5,7 +5,7 @@ use lib.ListN.{length}
 use lib.Seq.{sets}
 use Rattle.frames.specs.Frame.{frameLength, frameOf}
 use Rattle.morris.specs.Refusals.{refusal}
-use Rattle.morris.specs.Conditions.{writePicks}
+use Rattle.morris.specs.Conditions.{shortPicks}
 use Rattle.morris.specs.Answers.{Answer, accepted, refused, answer, target}
 use Rattle.morris.specs.declared.Framed.{Framed}
 use Rattle.morris.specs.declared.Framed.the-variants.{Length, Refused}
@@ -17,8 +17,8 @@ frameWritten (Refused n) = refused n
 
 -- 1, 2, 3, 4, 7; else the frame is written: 6, 10 or 14 characters
 unfoldable pub writeFrameCall : ℕ → List ℕ → List ℕ → Answer
-writeFrameCall rings b old = answer (refusal (writePicks rings b (length old))) (frameLength rings ∷ [])
+writeFrameCall rings b old = answer (refusal (shortPicks rings b (length old) (frameLength rings))) (frameLength rings ∷ [])
 
 -- the frame at the start of the target, the places beyond it as they were; after a refusal what the target held
 unfoldable pub writeFrameTarget : ℕ → List ℕ → List ℕ → List ℕ
-writeFrameTarget rings b old = target (refusal (writePicks rings b (length old))) (sets old 0 (frameOf rings b)) old
+writeFrameTarget rings b old = target (refusal (shortPicks rings b (length old) (frameLength rings))) (sets old 0 (frameOf rings b)) old

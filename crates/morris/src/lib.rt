@@ -8,6 +8,8 @@ mod refusals;
 ghost use mathlib.Core.Path.{_≡_};
 ghost use Rattle.morris.specs.RankCall.{ranked, rankCall};
 ghost use Rattle.morris.specs.UnrankCall.{unranked, unrankCall, unrankTarget};
+ghost use Rattle.morris.specs.MovesCall.{listed, movesCall, movesList};
+ghost use Rattle.morris.specs.MakeMoveCall.{made, makeMoveCall, makeMoveTarget};
 ghost use Rattle.morris.specs.ReadFrameCall.{frameRead, readFrameCall};
 ghost use Rattle.morris.specs.WriteFrameCall.{frameWritten, writeFrameCall, writeFrameTarget};
 
@@ -59,6 +61,58 @@ pub fn unrank(rings: u8, mover: u8, opponent: u8, rank: u64, target: &mut [u8]) 
     );
     board::write_board(position, target);
     Unranked::Written
+}
+
+// How many moves were listed, or the number of a refusal.
+pub enum Listed {
+    Count(usize),
+    Refused(u8),
+}
+
+// Lists a board's moves by rising number at the start of the list; 324 places are always enough. Refusals: 1, 2, 3, 4, 7.
+pub fn moves(rings: u8, board: &[u8], list: &mut [u16]) -> Listed
+    ensures answer { λ r. ⌜ listed r ≡ movesCall rings (now (board .entry)) (now (list .entry)) ⌝ }
+    ensures list { λ _. ⌜ now (list .exit) ≡ movesList rings (now (board .entry)) (now (list .entry)) ⌝ }
+{
+    let refusal = refusals::of_board(rings, board);
+    if refusal != 0 {
+        return Listed::Refused(refusal);
+    }
+    let near = plies::neighbour_masks(rings as usize);
+    let mills = plies::mill_masks(rings as usize);
+    let position = board::position_of(board);
+    let count = plies::count_moves(rings as usize, &near, &mills, position);
+    if list.len() < count {
+        return Listed::Refused(refusals::SHORT_TARGET);
+    }
+    plies::list_moves(rings as usize, &near, &mills, position, list);
+    Listed::Count(count)
+}
+
+// The target was written, or the number of a refusal.
+pub enum Made {
+    Written,
+    Refused(u8),
+}
+
+// Writes the board after a listed move over the target, of 8 × rings bytes: the sides have changed names. Refusals: 1, 2, 3, 4, 6, 8.
+pub fn make_move(rings: u8, board: &[u8], number: u16, target: &mut [u8]) -> Made
+    ensures answer { λ r. ⌜ made r ≡ makeMoveCall rings (now (board .entry)) number (now (target .entry)) ⌝ }
+    ensures target { λ _. ⌜ now (target .exit) ≡ makeMoveTarget rings (now (board .entry)) number (now (target .entry)) ⌝ }
+{
+    let refusal = refusals::of_target(rings, board, target.len());
+    if refusal != 0 {
+        return Made::Refused(refusal);
+    }
+    let near = plies::neighbour_masks(rings as usize);
+    let mills = plies::mill_masks(rings as usize);
+    let position = board::position_of(board);
+    if plies::is_move(rings as usize, &near, &mills, position, number as usize) {
+        let after = plies::after_ply(rings as usize, position, number as usize);
+        board::write_board(after, target);
+        return Made::Written;
+    }
+    Made::Refused(refusals::MOVE)
 }
 
 // A frame taken apart: a position as two point sets, or the number of a refusal.

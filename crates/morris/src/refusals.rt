@@ -5,7 +5,7 @@ ghost use lib.ListN.{length};
 ghost use Rattle.sets.specs.Sets.{members};
 ghost use Rattle.board.specs.Board.{count};
 ghost use Rattle.morris.specs.Refusals.{refusal};
-ghost use Rattle.morris.specs.Conditions.{ringsWrong, valueWrong, countsWrong, boardPicks, countsPicks, framePicks};
+ghost use Rattle.morris.specs.Conditions.{ringsWrong, valueWrong, countsWrong, boardPicks, countsPicks, targetPicks, framePicks};
 
 // The refusal numbers of document 01.
 const RINGS: u8 = 1;
@@ -21,6 +21,8 @@ pub const RANK: u8 = 5;
 const TARGET_LENGTH: u8 = 6;
 
 pub const SHORT_TARGET: u8 = 7;
+
+pub const MOVE: u8 = 8;
 
 const FRAME: u8 = 14;
 
@@ -84,6 +86,20 @@ pub fn of_board(rings: u8, board: &[u8]) -> u8
     }
     if stones_wrong(points as u32, board) {
         return COUNTS;
+    }
+    0
+}
+
+// The first refusal that rings, a board and a target of so many bytes meet, or 0.
+pub fn of_target(rings: u8, board: &[u8], room: usize) -> u8
+    ensures { λ r. ⌜ r ≡ refusal (targetPicks rings (now (board .entry)) room) ⌝ }
+{
+    let refusal = of_board(rings, board);
+    if refusal != 0 {
+        return refusal;
+    }
+    if room != board.len() {
+        return TARGET_LENGTH;
     }
     0
 }

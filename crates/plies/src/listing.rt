@@ -6,7 +6,7 @@ ghost use lib.ListN.{length};
 ghost use lib.Seq.{sets};
 ghost use Rattle.sets.specs.Sets.{elements};
 ghost use Rattle.board.specs.Board.{boardOf};
-ghost use Rattle.rules.specs.Ply.{removable, stoneMoves, moves};
+ghost use Rattle.rules.specs.Ply.{removable, stoneMoves, listedMoves};
 ghost use Rattle.plies.specs.Masks.{NeighbourMasks, MillMasks};
 ghost use Rattle.plies.specs.Positions.{Placed, Vacant};
 
@@ -42,7 +42,7 @@ pub fn count_moves(
     requires { ⌜ NeighbourMasks rings (now near) ⌝ }
     requires { ⌜ MillMasks rings (now mills) ⌝ }
     requires { ⌜ Placed rings position ⌝ }
-    ensures { λ r. ⌜ r ≡ length (moves (λ n b. removable n b) rings (boardOf (8 * rings) position)) ⌝ }
+    ensures { λ r. ⌜ r ≡ length (listedMoves rings (boardOf (8 * rings) position)) ⌝ }
 {
     let mut n = 0;
     let mut left = position.mover;
@@ -109,8 +109,8 @@ pub fn list_moves(
     requires { ⌜ NeighbourMasks rings (now near) ⌝ }
     requires { ⌜ MillMasks rings (now mills) ⌝ }
     requires { ⌜ Placed rings position ⌝ }
-    requires { ⌜ length (moves (λ n b. removable n b) rings (boardOf (8 * rings) position)) ≤ length (now list) ⌝ }
-    ensures { λ _. ⌜ now (list .exit) ≡ sets (now (list .entry)) 0 (moves (λ n b. removable n b) rings (boardOf (8 * rings) position)) ⌝ }
+    requires { ⌜ length (listedMoves rings (boardOf (8 * rings) position)) ≤ length (now list) ⌝ }
+    ensures { λ _. ⌜ now (list .exit) ≡ sets (now (list .entry)) 0 (listedMoves rings (boardOf (8 * rings) position)) ⌝ }
 {
     let mut k = 0;
     let mut left = position.mover;

@@ -4,7 +4,7 @@ ghost use mathlib.Core.Bool.{true};
 ghost use Prim.Native.Nat.{_*_};
 ghost use Rattle.lists.specs.Lists.{member};
 ghost use Rattle.board.specs.Board.{positionOf, boardOf};
-ghost use Rattle.rules.specs.Ply.{removable, moves, afterPly};
+ghost use Rattle.rules.specs.Ply.{afterPly, listedMoves};
 ghost use Rattle.plies.specs.Masks.{NeighbourMasks, MillMasks};
 ghost use Rattle.plies.specs.Positions.{Placed};
 
@@ -19,7 +19,7 @@ pub fn is_move(
     requires { ⌜ NeighbourMasks rings (now near) ⌝ }
     requires { ⌜ MillMasks rings (now mills) ⌝ }
     requires { ⌜ Placed rings position ⌝ }
-    ensures { λ r. ⌜ r ≡ member number (moves (λ n b. removable n b) rings (boardOf (8 * rings) position)) ⌝ }
+    ensures { λ r. ⌜ r ≡ member number (listedMoves rings (boardOf (8 * rings) position)) ⌝ }
 {
     let from = number / 1024;
     let to = number / 32 % 32;
@@ -41,7 +41,7 @@ pub fn is_move(
 // The position after a listed move: the stone slides, a stone may be removed, and the sides change names.
 pub fn after_ply(rings: usize, position: board::Position, number: usize) -> board::Position
     requires { ⌜ Placed rings position ⌝ }
-    requires { ⌜ member number (moves (λ n b. removable n b) rings (boardOf (8 * rings) position)) ≡ true ⌝ }
+    requires { ⌜ member number (listedMoves rings (boardOf (8 * rings) position)) ≡ true ⌝ }
     ensures { λ r. ⌜ r ≡ positionOf (afterPly (boardOf (8 * rings) position) number) ⌝ }
 {
     let mover = position.mover;

@@ -70,6 +70,10 @@ stoneMoves rule rings b from tos = each (λ to. slideMoves rule rings b from to)
 unfoldable pub moves : (ℕ → List ℕ → List ℕ) → ℕ → List ℕ → List ℕ
 moves rule rings b = each (λ from. stoneMoves rule rings b from (targets rings b from)) (holding rings b 1)
 
+-- by document 01's rule of removal
+abbrev pub listedMoves : ℕ → List ℕ → List ℕ
+listedMoves rings b = moves (λ n c. removable n c) rings b
+
 -- the stone at a point is taken away, if any is removed
 unfoldable pub remove : List ℕ → ℕ → List ℕ
 remove b removed = elim (eqb removed noRemoval) [ true ↦ b | false ↦ set b removed 0 ]

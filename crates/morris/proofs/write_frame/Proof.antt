@@ -10,31 +10,30 @@ use borrow.Author.Tests.{lt-ltb, le-ltb}
 use borrow.Author.Needs.{needs}
 use Rattle.frames.specs.Frame.{frameLength, frameOf}
 use Rattle.morris.specs.Refusals.{refusal}
-use Rattle.morris.specs.Conditions.{boardPicks, writePicks}
+use Rattle.morris.specs.Conditions.{boardPicks, shortPicks}
 use Rattle.morris.specs.Answers.{accepted, refused}
 use Rattle.morris.specs.WriteFrameCall.{writeFrameCall, writeFrameTarget}
-use Rattle.morris.proofs.Conditions.{accepted-board}
-use Rattle.morris.proofs.FrameConditions.{board-refused, room-decides}
+use Rattle.morris.proofs.Conditions.{accepted-board, short-refused, short-decides}
 use Rattle.morris.proofs.Answering.{answer-refused, answer-accepted, target-kept, target-written}
 use Rattle.morris.proofs.write_frame.Statement.{statement}
 use Rattle.morris.proofs.write_frame.Tie as tie
 
 -- the two ways out: turned back with a number, and written
 module _ (rings : ℕ) (b old : List ℕ) where
-  turned-back : (n : ℕ) → (n ≡ 0 → ⊥) → n ≡ refusal (writePicks rings b (length old))
+  turned-back : (n : ℕ) → (n ≡ 0 → ⊥) → n ≡ refusal (shortPicks rings b (length old) (frameLength rings))
       → (refused n ≡ writeFrameCall rings b old) × (old ≡ writeFrameTarget rings b old)
   unfolding writeFrameCall writeFrameTarget
   turned-back n z e = (
-    answer-refused n (refusal (writePicks rings b (length old))) (frameLength rings ∷ []) z e,
-    target-kept n (refusal (writePicks rings b (length old))) (sets old 0 (frameOf rings b)) old z e,
+    answer-refused n (refusal (shortPicks rings b (length old) (frameLength rings))) (frameLength rings ∷ []) z e,
+    target-kept n (refusal (shortPicks rings b (length old) (frameLength rings))) (sets old 0 (frameOf rings b)) old z e,
   )
 
-  written : (n : ℕ) (new : List ℕ) → 0 ≡ refusal (writePicks rings b (length old)) → n ≡ frameLength rings → new ≡ sets old 0 (frameOf rings b)
+  written : (n : ℕ) (new : List ℕ) → 0 ≡ refusal (shortPicks rings b (length old) (frameLength rings)) → n ≡ frameLength rings → new ≡ sets old 0 (frameOf rings b)
       → (accepted (n ∷ []) ≡ writeFrameCall rings b old) × (new ≡ writeFrameTarget rings b old)
   unfolding writeFrameCall writeFrameTarget
   written n new z l e = (
-    ap (λ (k : ℕ). accepted (k ∷ [])) l ∙ answer-accepted (refusal (writePicks rings b (length old))) (frameLength rings ∷ []) z,
-    e ∙ target-written (refusal (writePicks rings b (length old))) (sets old 0 (frameOf rings b)) old z,
+    ap (λ (k : ℕ). accepted (k ∷ [])) l ∙ answer-accepted (refusal (shortPicks rings b (length old) (frameLength rings))) (frameLength rings ∷ []) z,
+    e ∙ target-written (refusal (shortPicks rings b (length old) (frameLength rings))) (sets old 0 (frameOf rings b)) old z,
   )
 
 -- past the first refusals, the board is accepted
@@ -50,7 +49,7 @@ returns c =
     let a = c .before .before .before .before .args in
     let n = c .before .of-board .result in
     turned-back (a .rings) (a .board .now) (a .target .now) n (c .if1 .taken)
-    (board-refused (a .rings) (a .board .now) (length (a .target .now)) n (c .if1 .taken) (c .before .of-board .ensures))
+    (short-refused (a .rings) (a .board .now) (length (a .target .now)) (frameLength (a .rings)) n (c .if1 .taken) (c .before .of-board .ensures))
 
 frame-length-requires : tie.Need-frame-length-requires
 frame-length-requires c κs = search needs
@@ -62,7 +61,7 @@ returns-2 c =
     let n = length (a .target .now) in
     let short = lt-ltb n (frameLength (a .rings)) (omega (arith, c .if2 .taken, c .before .frame-length .ensures)) in
     turned-back (a .rings) (a .board .now) (a .target .now) 7 (λ z. absurd (omega arith))
-    (sym (room-decides (a .rings) (a .board .now) n (passed-board x) ∙ ap (λ (t : Bool). cond t 7 0) short))
+    (sym (short-decides (a .rings) (a .board .now) n (frameLength (a .rings)) (passed-board x) ∙ ap (λ (t : Bool). cond t 7 0) short))
 
 write-requires : tie.Need-write-requires
 write-requires c κs =
@@ -83,7 +82,7 @@ returns-3 c =
     let n = length (a .target .now) in
     let fits = le-ltb n (frameLength (a .rings)) (omega (arith, y .if2 .left, y .before .frame-length .ensures)) in
     written (a .rings) (a .board .now) (a .target .now) (y .before .frame-length .result) (c .before .before .write .last .1 .1 .0)
-    (sym (room-decides (a .rings) (a .board .now) n (passed-board x) ∙ ap (λ (t : Bool). cond t 7 0) fits))
+    (sym (short-decides (a .rings) (a .board .now) n (frameLength (a .rings)) (passed-board x) ∙ ap (λ (t : Bool). cond t 7 0) fits))
     (y .before .frame-length .ensures) (c .before .before .write .ensures)
 
 pub write-frame-spec : {M : Type 1} → statement M

@@ -1,0 +1,37 @@
+-- An accepted board as a position: it is placed, stands for the board, and so has the board's moves. And the board after a listed move is that of the
+-- position after it. Assumes nothing.
+use mathlib.Core.Path.{_≡_, sym, ap, subst, _∙_}
+use mathlib.Core.Bool.{true}
+use mathlib.Core.List.{List}
+use Prim.Native.Nat.{ℕ, _*_, _≤_}
+use native.Mathlib.Omega.{arith}
+use lib.ListN.{length}
+use Rattle.lists.specs.Lists.{member}
+use Rattle.lists.proofs.Tests.{member-is}
+use Rattle.board.specs.Board.{positionOf, boardOf, OnBoard}
+use Rattle.board.proofs.Sides.{board-position, position-on}
+use Rattle.rules.specs.Ply.{removable, listedMoves, afterPly}
+use Rattle.rules.proofs.Listed.{removable-takes}
+use Rattle.rules.proofs.Leads.{ply-leads}
+use Rattle.plies.specs.Positions.{Placed}
+use Rattle.morris.proofs.Conditions.{Accepted}
+
+module _ (rings : ℕ) (b : List ℕ) (w : Accepted rings b) where
+  pub few-points : length b ≤ 24
+  few-points = omega (arith, w .points, w .rings-high)
+
+  pub placed : Placed rings (positionOf b)
+  placed = record { small = w .rings-high; on = subst (λ (n : ℕ). OnBoard n (positionOf b)) (w .points) (position-on b) }
+
+  pub board-back : boardOf (8 * rings) (positionOf b) ≡ b
+  board-back = ap (λ (n : ℕ). boardOf n (positionOf b)) (sym (w .points)) ∙ board-position b (w .values)
+
+  -- the moves are the board's
+  pub moves-back : listedMoves rings (boardOf (8 * rings) (positionOf b)) ≡ listedMoves rings b
+  moves-back = ap (listedMoves rings) board-back
+
+  -- the board after a listed move
+  pub after-back : (move : ℕ) → member move (listedMoves rings b) ≡ true → boardOf (8 * rings) (positionOf (afterPly b move)) ≡ afterPly b move
+  after-back move e =
+      let l = ply-leads (λ n c. removable n c) removable-takes rings (w .rings-high) b (w .values) (w .points) move (member-is move (listedMoves rings b) e) in
+      ap (λ (n : ℕ). boardOf n (positionOf (afterPly b move))) (sym (l .points ∙ w .points)) ∙ board-position (afterPly b move) (l .values)
