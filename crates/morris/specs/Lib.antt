@@ -5,4 +5,5 @@ pub mod RankCall
 pub mod UnrankCall
 pub mod ReadFrameCall
 pub mod WriteFrameCall
+pub mod RepresentativeCall
 pub mod Cases
