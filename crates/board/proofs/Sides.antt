@@ -147,7 +147,8 @@ said zero (suc (suc y)) h = absurd (omega arith)
 said (suc zero) (suc y) h = absurd (omega arith)
 said (suc (suc x)) y h = absurd (omega arith)
 
-values-all : (f : ℕ → ℕ) (n i : ℕ) → ((q : ℕ) → q < i + n → f q ≤ 2) → Values (values f i n)
+-- a board by its rule at each point
+pub values-all : (f : ℕ → ℕ) (n i : ℕ) → ((q : ℕ) → q < i + n → f q ≤ 2) → Values (values f i n)
 values-all f zero i h = tt
 values-all f (suc n) i h = (h i (omega arith), values-all f n (suc i) (λ q l. h q (omega arith)))
 

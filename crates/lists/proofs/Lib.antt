@@ -1,6 +1,7 @@
 pub mod Keep
 pub mod Lengths
 pub mod Members
+pub mod Passes
 pub mod Rises
 pub mod Table
 pub mod Tests

@@ -6,4 +6,5 @@ pub mod FrameConditions
 pub mod RoundTrip
 pub mod FrameRoundTrip
 pub mod FrameCases
+pub mod OneClass
 pub mod Starred

@@ -7,4 +7,5 @@ pub mod MovesCall
 pub mod MakeMoveCall
 pub mod ReadFrameCall
 pub mod WriteFrameCall
+pub mod RepresentativeCall
 pub mod Cases

@@ -12,6 +12,7 @@ ghost use Rattle.morris.specs.MovesCall.{listed, movesCall, movesList};
 ghost use Rattle.morris.specs.MakeMoveCall.{made, makeMoveCall, makeMoveTarget};
 ghost use Rattle.morris.specs.ReadFrameCall.{frameRead, readFrameCall};
 ghost use Rattle.morris.specs.WriteFrameCall.{frameWritten, writeFrameCall, writeFrameTarget};
+ghost use Rattle.morris.specs.RepresentativeCall.{represented, representativeCall};
 
 // The rank of a board, or the number of a refusal.
 pub enum Ranked {
@@ -169,4 +170,22 @@ pub fn write_frame(rings: u8, board: &[u8], target: &mut [u8]) -> Framed
     }
     frames::write(rings, board, target);
     Framed::Length(length)
+}
+
+// The rank of a representative, or the number of a refusal.
+pub enum Represented {
+    Rank(u64),
+    Refused(u8),
+}
+
+// The rank of the representative of a board's class. Refusals: 1, 2, 3, 4.
+pub fn representative(rings: u8, board: &[u8]) -> Represented
+    ensures { λ r. ⌜ represented r ≡ representativeCall rings (now (board .entry)) ⌝ }
+{
+    let refusal = refusals::of_board(rings, board);
+    if refusal != 0 {
+        return Represented::Refused(refusal);
+    }
+    let binomials = sizes::binomial_table();
+    Represented::Rank(symmetry::representative_rank(&binomials, rings as usize, board) as u64)
 }

@@ -1,0 +1,10 @@
+pub mod Group
+pub mod Images
+pub mod Sums
+pub mod Compose
+pub mod Least
+pub mod Classes
+pub mod Kept
+pub mod Stores
+pub mod Plies
+pub mod Worked

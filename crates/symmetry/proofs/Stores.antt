@@ -1,0 +1,88 @@
+-- The steps of a ply on an image: a slide, a removal and the change of names lead to the image of what they lead to on the board, each point
+-- taken to its source. Assumes nothing.
+use mathlib.Core.Path.{_≡_, refl, sym, _∙_, ap}
+use mathlib.Core.Bool.{Bool, true, false}
+use mathlib.Core.List.{List, map}
+use mathlib.Core.Logic.{_⊎_, inl, inr}
+use Prim.Native.Nat.{ℕ, _*_, _≤_, _<_}
+use native.Mathlib.Omega.{arith}
+use lib.Dec.{eqb}
+use lib.ListN.{getD, set, length, length-set, length-map, List·getD-map}
+use lib.Seq.{getD-set-same, getD-set-other}
+use borrow.Author.Tests.{eqb-true, eqb-false, eq-eqb, ne-eqb}
+use Rattle.rules.specs.Ply.{slide, noRemoval, fromOf, toOf, removedOf, remove, exchange, afterPly}
+use Rattle.symmetry.specs.Symmetries.{symmetries, source, image}
+use Rattle.symmetry.proofs.Group.{inverse, source-none, source-low, source-undo}
+use Rattle.symmetry.proofs.Images.{image-length, image-at, image-is}
+
+-- a board keeps its points
+pub slide-points : (b : List ℕ) (s t : ℕ) → length (slide b s t) ≡ length b
+unfolding slide
+slide-points b s t = length-set (set b s 0) t 1 ∙ length-set b s 0
+
+pub after-points : (b : List ℕ) (n : ℕ) → length (afterPly b n) ≡ length b
+unfolding afterPly remove
+after-points b n = length-map (remove k (removedOf n)) (λ v. exchange v) ∙ go (eqb (removedOf n) noRemoval) refl
+  where
+    k : List ℕ
+    k = slide b (fromOf n) (toOf n)
+
+    go : (t : Bool) → eqb (removedOf n) noRemoval ≡ t → length (remove k (removedOf n)) ≡ length b
+    go true e = rw (e, remove) (slide-points b (fromOf n) (toOf n))
+    go false e = rw (e, remove) (length-set k (removedOf n) 0 ∙ slide-points b (fromOf n) (toOf n))
+
+-- what a ply removes: nothing, or the stone at a point
+abbrev pub PointOrNone : ℕ → ℕ → Type 0
+PointOrNone rings r = (r ≡ noRemoval) ⊎ (r < 8 * rings)
+
+module _ (rings : ℕ) (few : rings ≤ 3) (g : ℕ) (h : g < symmetries) where
+  -- to the source and back
+  pub removed-back : (r : ℕ) → PointOrNone rings r → source rings (inverse g) (source rings g r) ≡ r
+  removed-back r (inl e) =
+      ap (λ (x : ℕ). source rings (inverse g) x) (source-none rings g r (omega arith)) ∙ source-none rings (inverse g) r (omega arith)
+  removed-back r (inr l) = source-undo rings few g r h l
+
+  pub image-exchange : (b : List ℕ) → map (λ v. exchange v) (image rings g b) ≡ image rings g (map (λ v. exchange v) b)
+  unfolding exchange
+  image-exchange b =
+      image-is rings g (map (λ v. exchange v) b) (map (λ v. exchange v) (image rings g b))
+      (length-map (image rings g b) (λ v. exchange v) ∙ image-length rings g b ∙ sym (length-map b (λ v. exchange v)))
+      (λ p l. List·getD-map (λ v. exchange v) (image rings g b) p 0
+      ∙ ap (λ (v : ℕ). exchange v) (image-at rings g b p (omega (arith, length-map b (λ v. exchange v))))
+      ∙ sym (List·getD-map (λ v. exchange v) b (source rings g p) 0))
+
+  image-set : (b : List ℕ) → length b ≡ 8 * rings → (p v : ℕ) → p < 8 * rings → set (image rings g b) p v ≡ image rings g (set b (source rings g p) v)
+  image-set b points p v low =
+      image-is rings g (set b at v) (set (image rings g b) p v)
+      (length-set (image rings g b) p v ∙ image-length rings g b ∙ sym (length-set b at v))
+      (λ q m. go q (omega (arith, length-set b at v)) (eqb q p) refl)
+    where
+      at : ℕ
+      at = source rings g p
+
+      go : (q : ℕ) → q < 8 * rings → (t : Bool) → eqb q p ≡ t → getD (set (image rings g b) p v) q 0 ≡ getD (set b at v) (source rings g q) 0
+      go q m true e =
+          let z = eqb-true q p e in
+          rw z (getD-set-same (image rings g b) p v 0 (omega (arith, image-length rings g b))
+          ∙ sym (getD-set-same b at v 0 (omega (arith, source-low rings few g p h low))))
+      go q m false e =
+          let ne = eqb-false q p e in
+          getD-set-other (image rings g b) p q v 0 ne ∙ image-at rings g b q (omega arith)
+          ∙ sym (getD-set-other b at (source rings g q) v 0 (λ z.
+          ne (sym (source-undo rings few g q h m) ∙ ap (λ (x : ℕ). source rings (inverse g) x) z ∙ source-undo rings few g p h low)))
+
+  module _ (b : List ℕ) (points : length b ≡ 8 * rings) where
+    pub slide-image : (s t : ℕ) → s < 8 * rings → t < 8 * rings
+        → slide (image rings g b) s t ≡ image rings g (slide b (source rings g s) (source rings g t))
+    unfolding slide
+    slide-image s t a c =
+        ap (λ (x : List ℕ). set x t 1) (image-set b points s 0 a)
+        ∙ image-set (set b (source rings g s) 0) (length-set b (source rings g s) 0 ∙ points) t 1 c
+
+    pub remove-image : (r : ℕ) → PointOrNone rings r → remove (image rings g b) r ≡ image rings g (remove b (source rings g r))
+    unfolding remove
+    remove-image r (inl e) =
+        rw (eq-eqb r noRemoval e, eq-eqb (source rings g r) noRemoval (source-none rings g r (omega arith) ∙ e), remove)
+    remove-image r (inr l) =
+        let low = source-low rings few g r h l in
+        rw (ne-eqb r noRemoval (λ z. omega arith), ne-eqb (source rings g r) noRemoval (λ z. omega arith), remove) (image-set b points r 0 l)

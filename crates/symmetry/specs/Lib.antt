@@ -1,0 +1,2 @@
+pub mod Symmetries
+pub mod Representative
