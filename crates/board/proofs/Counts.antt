@@ -38,3 +38,11 @@ pub values-take : (n : ℕ) (b : List ℕ) → Values b → Values (take n b)
 values-take zero b p = tt
 values-take (suc n) [] p = tt
 values-take (suc n) (x ∷ b) p = (p .0, values-take n b (p .1))
+
+-- every point holds one of three values
+pub count-all : (b : List ℕ) → Values b → count 0 b + count 1 b + count 2 b ≡ length b
+count-all [] v = refl
+count-all (zero ∷ b) v = omega (arith, count-all b (v .1))
+count-all (suc zero ∷ b) v = omega (arith, count-all b (v .1))
+count-all (suc (suc zero) ∷ b) v = omega (arith, count-all b (v .1))
+count-all (suc (suc (suc x)) ∷ b) v = absurd (omega (arith, v .0))

@@ -2,3 +2,4 @@ pub mod Geometry
 pub mod Sides
 pub mod Counts
 pub mod OneToOne
+pub mod Stores

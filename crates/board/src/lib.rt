@@ -4,6 +4,7 @@ mod tables;
 
 pub use position::Position;
 pub use position::position_of;
+pub use position::vacant;
 pub use position::value_at;
 pub use position::write_board;
 pub use tables::degree;

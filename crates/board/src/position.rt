@@ -2,7 +2,7 @@
 ghost use mathlib.Core.Path.{_≡_};
 ghost use Prim.Native.Nat.{_≤_, _<_};
 ghost use lib.ListN.{length};
-ghost use Rattle.board.specs.Board.{setOf, positionOf, valueAt, boardOf};
+ghost use Rattle.board.specs.Board.{setOf, positionOf, valueAt, boardOf, OnBoard};
 
 // The points of the side to move, and those of the other side.
 pub struct Position {
@@ -33,6 +33,14 @@ pub fn position_of(board: &[u8]) -> Position
         mover: set_of(board, 1),
         opponent: set_of(board, 2),
     }
+}
+
+// The vacant points.
+pub fn vacant(points: usize, position: Position) -> u32
+    requires { ⌜ (points ≤ 24) × OnBoard points position ⌝ }
+    ensures { λ r. ⌜ r ≡ setOf 0 (boardOf points position) ⌝ }
+{
+    (1u32 << points) - 1 - position.mover - position.opponent
 }
 
 // What stands at a point.

@@ -1,5 +1,5 @@
 -- Laws of `keep`: what a test says of the first member, and the numbers below a bound. Assumes nothing.
-use mathlib.Core.Path.{_≡_, refl, ap, _∙_}
+use mathlib.Core.Path.{_≡_, refl, sym, ap, _∙_}
 use mathlib.Core.Bool.{Bool, true, false}
 use mathlib.Core.List.{List, [], _∷_}
 use Prim.Native.Nat.{ℕ, zero, suc, _+_, _≤_}
@@ -14,6 +14,17 @@ module _ {A : Type 0} (f : A → Bool) (x : A) (xs : List A) where
 
   pub keep-no : f x ≡ false → keep f (x ∷ xs) ≡ keep f xs
   keep-no e = rw (e, keep)
+
+-- two tests, in either order
+pub keep-keep : {A : Type 0} (f g : A → Bool) (l : List A) → keep f (keep g l) ≡ keep g (keep f l)
+keep-keep f g [] = refl
+keep-keep f g (x ∷ l) = go (f x) refl (g x) refl (keep-keep f g l)
+  where
+    go : (a : Bool) → f x ≡ a → (b : Bool) → g x ≡ b → keep f (keep g l) ≡ keep g (keep f l) → keep f (keep g (x ∷ l)) ≡ keep g (keep f (x ∷ l))
+    go true p true q r = ap (keep f) (keep-yes g x l q) ∙ keep-yes f x (keep g l) p ∙ ap (λ k. x ∷ k) r ∙ sym (ap (keep g) (keep-yes f x l p) ∙ keep-yes g x (keep f l) q)
+    go true p false q r = ap (keep f) (keep-no g x l q) ∙ r ∙ sym (ap (keep g) (keep-yes f x l p) ∙ keep-no g x (keep f l) q)
+    go false p true q r = ap (keep f) (keep-yes g x l q) ∙ keep-no f x (keep g l) p ∙ r ∙ ap (keep g) (sym (keep-no f x l p))
+    go false p false q r = ap (keep f) (keep-no g x l q) ∙ r ∙ ap (keep g) (sym (keep-no f x l p))
 
 module _ (f : ℕ → Bool) (n : ℕ) where
   below : ℕ → Bool

@@ -1,12 +1,13 @@
--- Who is a member of a list that the definitions make: of `keep`, `each`, `map` and `range`, in both directions. Assumes nothing.
+-- Who is a member of a list that the definitions make: of `keep`, `each`, `map`, `range` and `orElse`, in both directions. Assumes nothing.
 use mathlib.Core.Path.{_≡_, refl, sym, ap, _∙_}
 use mathlib.Core.Bool.{Bool, true, false, true≢false}
 use mathlib.Core.Logic.{_⊎_, inl, inr}
 use mathlib.Core.List.{List, [], _∷_, _++_, map, List·Memᴰ, List·Memᴰ·head, List·Memᴰ·tail, List·Memᴰ·not-nil, List·Memᴰ·cases-cons, List·Memᴰ·append-cases, Memᴰ·append-left, Memᴰ·append-right}
 use Prim.Native.Nat.{ℕ, zero, suc, _+_, _≤_, _<_}
-use native.Mathlib.Nat.{eq-or-lt-of-le}
+use native.Mathlib.Nat.{eq-or-lt-of-le, not-suc-le-zero, le-of-suc-le-suc}
+use lib.ListN.{length, getD}
 use native.Mathlib.Omega.{arith}
-use Rattle.lists.specs.Lists.{range, keep, each}
+use Rattle.lists.specs.Lists.{range, keep, each, orElse}
 
 module _ {A : Type 0} (f : A → Bool) where
   pub keep-member : (l : List A) {x : A} → List·Memᴰ x (keep f l) → List·Memᴰ x l × (f x ≡ true)
@@ -84,3 +85,21 @@ member-range (suc n) a x l h = go (eq-or-lt-of-le l) (λ k. member-range n (suc 
     go : (a ≡ x) ⊎ (a < x) → (suc a ≤ x → List·Memᴰ x (range (suc a) n)) → List·Memᴰ x (a ∷ range (suc a) n)
     go (inl p) r = List·Memᴰ·head (sym p)
     go (inr k) r = List·Memᴰ·tail (r k)
+
+module _ {A : Type 0} where
+  pub orElse-cases : (l r : List A) {x : A} → List·Memᴰ x (orElse l r) → List·Memᴰ x l ⊎ List·Memᴰ x r
+  orElse-cases [] r m = inr m
+  orElse-cases (y ∷ ys) r m = inl m
+
+  pub orElse-first : (l r : List A) {x : A} → List·Memᴰ x l → List·Memᴰ x (orElse l r)
+  orElse-first [] r m = absurd (List·Memᴰ·not-nil m)
+  orElse-first (y ∷ ys) r m = m
+
+  pub orElse-second : (l r : List A) {x : A} → ((y : A) → List·Memᴰ y l → ⊥) → List·Memᴰ x r → List·Memᴰ x (orElse l r)
+  orElse-second [] r none m = m
+  orElse-second (y ∷ ys) r none m = absurd (none y (List·Memᴰ·head refl))
+
+pub getD-member : (l : List ℕ) (i : ℕ) → i < length l → List·Memᴰ (getD l i 0) l
+getD-member [] i h = absurd (not-suc-le-zero h)
+getD-member (x ∷ l) zero h = List·Memᴰ·head refl
+getD-member (x ∷ l) (suc i) h = List·Memᴰ·tail (getD-member l i (le-of-suc-le-suc h))

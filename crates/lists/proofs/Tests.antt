@@ -1,7 +1,30 @@
--- A test by two parts that does not hold: neither part does. Assumes nothing.
-use mathlib.Core.Path.{_≡_, refl, subst}
-use mathlib.Core.Bool.{Bool, true, false, _||_}
-use lib.Dec.{T}
+-- Tests over lists as facts: `member` says who is a member, `any` and `all` who passes. Assumes nothing.
+use mathlib.Core.Path.{_≡_, refl, sym, ap, ap₂, _∙_}
+use mathlib.Core.Bool.{Bool, true, false, false≢true, _&&_, _||_}
+use mathlib.Core.List.{List, [], _∷_, List·Memᴰ, List·Memᴰ·head, List·Memᴰ·tail, List·Memᴰ·not-nil, List·Memᴰ·cases-cons}
+use mathlib.Core.Logic.{_⊎_, inl, inr}
+use Prim.Native.Nat.{ℕ}
+use lib.Dec.{eqb}
+use borrow.Author.Tests.{eqb-true, eq-eqb}
+use Rattle.lists.specs.Lists.{keep, all, any, member}
+
+-- tests that pass together are the same
+pub same-test : (a b : Bool) → (a ≡ true → b ≡ true) → (b ≡ true → a ≡ true) → a ≡ b
+same-test true b h k = sym (h refl)
+same-test false true h k = k refl
+same-test false false h k = refl
+
+pub untrue : (b : Bool) → (b ≡ true → ⊥) → false ≡ b
+untrue true h = absurd (h refl)
+untrue false h = refl
+
+pub and-left : (a b : Bool) → (a && b) ≡ true → a ≡ true
+and-left true b e = refl
+and-left false b e = e
+
+pub and-right : (a b : Bool) → (a && b) ≡ true → b ≡ true
+and-right true b e = e
+and-right false b e = absurd (false≢true e)
 
 pub or-left : (a b : Bool) → (a || b) ≡ false → a ≡ false
 or-left false b e = refl
@@ -9,4 +32,65 @@ or-left true b e = e
 
 pub or-right : (a b : Bool) → (a || b) ≡ false → b ≡ false
 or-right false b e = e
-or-right true b e = absurd (subst T e tt)
+or-right true b e = absurd (false≢true (sym e))
+
+pub member-is : (x : ℕ) (l : List ℕ) → member x l ≡ true → List·Memᴰ x l
+member-is x [] e = absurd (false≢true e)
+member-is x (y ∷ ys) e = go (eqb y x) refl e (member-is x ys)
+  where
+    go : (b : Bool) → eqb y x ≡ b → member x (y ∷ ys) ≡ true → (member x ys ≡ true → List·Memᴰ x ys) → List·Memᴰ x (y ∷ ys)
+    go true q e r = List·Memᴰ·head (sym (eqb-true y x q))
+    go false q e r = List·Memᴰ·tail (r (rw (q, member) at e))
+
+pub is-member : (x : ℕ) (l : List ℕ) → List·Memᴰ x l → member x l ≡ true
+is-member x [] m = absurd (List·Memᴰ·not-nil m)
+is-member x (y ∷ ys) m = go (eqb y x) refl (List·Memᴰ·cases-cons m) (is-member x ys)
+  where
+    go : (b : Bool) → eqb y x ≡ b → (x ≡ y) ⊎ List·Memᴰ x ys → (List·Memᴰ x ys → member x ys ≡ true) → member x (y ∷ ys) ≡ true
+    go true q c r = rw (q, member)
+    go false q (inl p) r = absurd (false≢true (sym q ∙ eq-eqb y x (sym p)))
+    go false q (inr k) r = rw (q, member) (r k)
+
+module _ {A : Type 0} where
+  -- all pass: so does each
+  pub all-member : (f : A → Bool) (l : List A) → all f l ≡ true → (x : A) → List·Memᴰ x l → f x ≡ true
+  all-member f [] e x m = absurd (List·Memᴰ·not-nil m)
+  all-member f (y ∷ ys) e x m = go (f y) refl e (List·Memᴰ·cases-cons m) (λ u k. all-member f ys u x k)
+    where
+      go : (b : Bool) → f y ≡ b → all f (y ∷ ys) ≡ true → (x ≡ y) ⊎ List·Memᴰ x ys → (all f ys ≡ true → List·Memᴰ x ys → f x ≡ true) → f x ≡ true
+      go true q e (inl p) r = ap f p ∙ q
+      go true q e (inr k) r = r (rw (q, all) at e) k
+      go false q e c r = absurd (false≢true (rw (q, all) at e))
+
+  -- a test of both is a test of those that pass the first
+  pub any-both : (f g : A → Bool) (l : List A) → any (λ x. f x && g x) l ≡ any g (keep f l)
+  any-both f g [] = refl
+  any-both f g (x ∷ xs) = go (f x) refl (g x) refl (any-both f g xs)
+    where
+      go : (a : Bool) → f x ≡ a → (b : Bool) → g x ≡ b → any (λ x. f x && g x) xs ≡ any g (keep f xs)
+          → any (λ x. f x && g x) (x ∷ xs) ≡ any g (keep f (x ∷ xs))
+      go true p true q r = rw (p, q, keep, any)
+      go true p false q r = rw (p, q, keep, any) r
+      go false p b q r = rw (p, keep, any) r
+
+  -- equal tests of the members
+  pub all-same : (f g : A → Bool) (l : List A) → ((x : A) → List·Memᴰ x l → f x ≡ g x) → all f l ≡ all g l
+  all-same f g [] h = refl
+  all-same f g (x ∷ xs) h = go (h x (List·Memᴰ·head refl)) (all-same f g xs (λ y m. h y (List·Memᴰ·tail m)))
+    where
+      go : f x ≡ g x → all f xs ≡ all g xs → all f (x ∷ xs) ≡ all g (x ∷ xs)
+      go p q = ap₂ (λ (b r : Bool). elim b as (λ c. Bool) [ true ↦ r | false ↦ false ]) p q
+
+  pub any-same : (f g : A → Bool) (l : List A) → ((x : A) → List·Memᴰ x l → f x ≡ g x) → any f l ≡ any g l
+  any-same f g [] h = refl
+  any-same f g (x ∷ xs) h = go (h x (List·Memᴰ·head refl)) (any-same f g xs (λ y m. h y (List·Memᴰ·tail m)))
+    where
+      go : f x ≡ g x → any f xs ≡ any g xs → any f (x ∷ xs) ≡ any g (x ∷ xs)
+      go p q = ap₂ (λ (b r : Bool). elim b as (λ c. Bool) [ true ↦ true | false ↦ r ]) p q
+
+  pub keep-same : (f g : A → Bool) (l : List A) → ((x : A) → List·Memᴰ x l → f x ≡ g x) → keep f l ≡ keep g l
+  keep-same f g [] h = refl
+  keep-same f g (x ∷ xs) h = go (h x (List·Memᴰ·head refl)) (keep-same f g xs (λ y m. h y (List·Memᴰ·tail m)))
+    where
+      go : f x ≡ g x → keep f xs ≡ keep g xs → keep f (x ∷ xs) ≡ keep g (x ∷ xs)
+      go p q = ap₂ (λ (b : Bool) (r : List A). elim b as (λ c. List A) [ true ↦ x ∷ r | false ↦ r ]) p q

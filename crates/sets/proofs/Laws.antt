@@ -107,6 +107,9 @@ without-absent s p h = rw h (omega arith)
 pub without-member : (s p : ℕ) → bit s p ≡ 1 → without s p ≡ s - 2 ^ p
 without-member s p h = rw h (omega arith)
 
+pub without-le : (s p : ℕ) → without s p ≤ s
+without-le s p = omega arith
+
 pub bit-with-same : (s p : ℕ) → bit (with s p) p ≡ 1
 bit-with-same s p =
     ⊎-elim (λ h. ap (λ (x : ℕ). bit x p) (with-absent s p h) ∙ bit-add-same s p h)

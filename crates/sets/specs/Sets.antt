@@ -2,7 +2,10 @@
 -- Assumes nothing.
 use Prim.Native.Nat.{ℕ, zero, suc, _+_, _-_, _*_, _/_, _%_, _^_}
 use mathlib.Core.Bool.{Bool, _&&_}
+use mathlib.Core.List.{List, [], _∷_}
 use lib.Dec.{eqb}
+use lib.ListN.{getD}
+use Rattle.lists.specs.Lists.{range, keep}
 
 -- the digit of s at p: 1 for a member, else 0
 abbrev pub bit : ℕ → ℕ → ℕ
@@ -28,3 +31,20 @@ members s (suc n) = members s n + bit s n
 -- three points are all members
 abbrev pub hasAll : ℕ → ℕ → ℕ → ℕ → Bool
 hasAll s a b c = has s a && (has s b && has s c)
+
+-- the members below n, by rising number
+unfoldable pub elements : ℕ → ℕ → List ℕ
+elements n s = keep (λ p. has s p) (range 0 n)
+
+-- the least member of a set of 32 points
+unfoldable pub lowest : ℕ → ℕ
+lowest s = getD (elements 32 s) 0 0
+
+-- s with all members of a list
+unfoldable pub withAll : ℕ → List ℕ → ℕ
+withAll s [] = s
+withAll s (p ∷ ps) = withAll (with s p) ps
+
+-- the set of a list's members
+unfoldable pub setFrom : List ℕ → ℕ
+setFrom ps = withAll 0 ps

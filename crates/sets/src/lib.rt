@@ -1,11 +1,11 @@
 // Sets of points, as the binary digits of a u32. A board has 24 points at the most.
 ghost use mathlib.Core.Path.{_≡_};
 ghost use Prim.Native.Nat.{_+_, _<_};
-ghost use Rattle.sets.specs.Sets.{bit, has, with, without, members, hasAll};
+ghost use Rattle.sets.specs.Sets.{bit, has, with, without, members, hasAll, lowest};
 
 // Whether a point is a member.
 pub fn has(s: u32, p: usize) -> bool
-    requires { ⌜ p < 24 ⌝ }
+    requires { ⌜ p < 32 ⌝ }
     ensures { λ r. ⌜ r ≡ has s p ⌝ }
 {
     (s >> p) % 2 == 1
@@ -13,7 +13,7 @@ pub fn has(s: u32, p: usize) -> bool
 
 // The set with one member more, or the same set where the point is a member already.
 pub fn with(s: u32, p: usize) -> u32
-    requires { ⌜ p < 24 ⌝ }
+    requires { ⌜ p < 32 ⌝ }
     ensures { λ r. ⌜ r ≡ with s p ⌝ }
 {
     s | (1u32 << p)
@@ -21,7 +21,7 @@ pub fn with(s: u32, p: usize) -> u32
 
 // The set with one member less, or the same set where the point is none.
 pub fn without(s: u32, p: usize) -> u32
-    requires { ⌜ p < 24 ⌝ }
+    requires { ⌜ p < 32 ⌝ }
     ensures { λ r. ⌜ r ≡ without s p ⌝ }
 {
     s - (s & (1u32 << p))
@@ -50,4 +50,12 @@ pub fn has_all(s: u32, a: usize, b: usize, c: usize) -> bool
     ensures { λ r. ⌜ r ≡ hasAll s a b c ⌝ }
 {
     of_three(s, a, b, c) == 3
+}
+
+// The least member of a set that has one.
+pub fn lowest(s: u32) -> usize
+    requires { ⌜ (s ≡ 0 → ⊥) ⌝ }
+    ensures { λ r. ⌜ (r ≡ lowest s) × (r < 32) ⌝ }
+{
+    u32::trailing_zeros(s) as usize
 }

@@ -1,0 +1,114 @@
+-- How many moves a board can have: 324 at the most, nine stones of four neighbours or three of all vacant points, each with up to nine removals.
+-- Assumes nothing.
+use mathlib.Core.Path.{_≡_, refl, sym, ap, subst, _∙_}
+use mathlib.Core.Bool.{Bool, true, false, not, _||_}
+use mathlib.Core.List.{List, [], _∷_, List·Memᴰ}
+use Prim.Native.Nat.{ℕ, _+_, _-_, _*_, _≤_, _<_}
+use native.Mathlib.Nat.{mul-le-mul-right, le-trans}
+use native.Mathlib.Omega.{arith}
+use lib.Dec.{eqb, ltb, leb}
+use lib.ListN.{length, getD, length-map}
+use borrow.Author.Tests.{eqb-true, eqb-false, ne-eqb, leb-true}
+use Rattle.lists.specs.Lists.{keep}
+use Rattle.lists.proofs.Keep.{keep-keep}
+use Rattle.lists.proofs.Lengths.{keep-le, orElse-le, each-le}
+use Rattle.lists.proofs.Table.{passed}
+use Rattle.lists.proofs.Tests.{keep-same}
+use Rattle.sets.proofs.Elements.{length-elements}
+use Rattle.board.specs.Geometry.{points, adjoin, neighbours}
+use Rattle.board.specs.Board.{Values, count, setOf}
+use Rattle.board.proofs.Sides.{members-count}
+use Rattle.board.proofs.Counts.{count-all}
+use Rattle.board.proofs.Geometry.{neighbours-within}
+use Rattle.rules.specs.Ply.{holds, holding, inMill, targets, slide, unshielded, removable, noRemoval, removals, moveNumber, slideMoves, stoneMoves, moves}
+use Rattle.rules.proofs.Derived.{neighbours-few}
+use Rattle.rules.proofs.Listed.{holding-is, target-vacant}
+use Rattle.rules.proofs.Leads.{slide-length, slide-counts}
+use Rattle.rules.proofs.OnSets.{holding-set}
+
+module _ (rings : ℕ) (small : rings ≤ 3) where
+  length-holding : (b : List ℕ) → length b ≡ 8 * rings → (v : ℕ) → length (holding rings b v) ≡ count v b
+  length-holding b whole v =
+      ap length (holding-set rings small b whole v) ∙ length-elements 32 (setOf v b) ∙ members-count v b (omega (arith, whole))
+
+  removable-le : (b : List ℕ) → length b ≡ 8 * rings → length (removable rings b) ≤ count 2 b
+  unfolding removable unshielded
+  removable-le b whole =
+      let h = length-holding b whole 2 in
+      orElse-le (count 2 b) (unshielded rings b) (holding rings b 2) (omega (arith, h, keep-le (λ p. not (inMill rings (holds b 2) p)) (holding rings b 2))) (omega (arith, h))
+
+  removals-le : (b : List ℕ) → length b ≡ 8 * rings → 1 ≤ count 2 b → (to : ℕ) → length (removals (λ n c. removable n c) rings b to) ≤ count 2 b
+  unfolding removals
+  removals-le b whole some to = go (inMill rings (holds b 1) to) refl
+    where
+      go : (x : Bool) → inMill rings (holds b 1) to ≡ x → length (removals (λ n c. removable n c) rings b to) ≤ count 2 b
+      go true e = rw (e, removals) (orElse-le (count 2 b) (removable rings b) (noRemoval ∷ []) (removable-le b whole) some)
+      go false e = rw (e, removals) some
+
+  module _ (b : List ℕ) (whole : length b ≡ 8 * rings) (values : Values b) (m : count 1 b ≤ 9) (some : 1 ≤ count 2 b) (o : count 2 b ≤ 9) where
+    -- a stone's moves to one point
+    slide-few : (from to : ℕ) → getD b from 0 ≡ 1 → from < 8 * rings → List·Memᴰ to (targets rings b from)
+        → length (slideMoves (λ n c. removable n c) rings b from to) ≤ count 2 b
+    slide-few from to own low t =
+        let v = target-vacant rings b from to t in
+        let hf : from < length b = omega (arith, whole) in
+        let ht : to < length b = omega (arith, whole, v .0) in
+        let n = slide-counts b from to hf ht own (v .1) in
+        let l = slide-length b from to hf ht own (v .1) in
+        omega (
+          arith,
+          n .1,
+          length-map (removals (λ n c. removable n c) rings (slide b from to) to) (λ r. moveNumber from to r),
+          removals-le (slide b from to) (l ∙ whole) (omega (arith, n .1, some)) to,
+        )
+
+    -- three stones: as many points as are vacant
+    jump-few : (from : ℕ) → length (targets rings b from) ≤ count 0 b
+    unfolding targets
+    jump-few from = omega (arith, keep-le (λ to. eqb (count 1 b) 3 || adjoin from to) (holding rings b 0), length-holding b whole 0)
+
+    -- else four at the most
+    near-few : (count 1 b ≡ 3 → ⊥) → (from : ℕ) → from < 24 → length (targets rings b from) ≤ 4
+    unfolding targets holding neighbours
+    near-few n from h =
+        let same : keep (λ to. eqb (count 1 b) 3 || adjoin from to) (points rings) ≡ neighbours rings from =
+        keep-same (λ to. eqb (count 1 b) 3 || adjoin from to) (λ to. adjoin from to) (points rings) (λ to i. ap (λ (x : Bool). x || adjoin from to) (ne-eqb (count 1 b) 3 n)) in
+        omega (
+          arith,
+          ap length (keep-keep (λ to. eqb (count 1 b) 3 || adjoin from to) (holds b 0) (points rings) ∙ ap (keep (holds b 0)) same),
+          keep-le (holds b 0) (neighbours rings from),
+          ap length (neighbours-within rings from small),
+          keep-le (λ q. ltb q (8 * rings)) (neighbours 3 from),
+          neighbours-few from h,
+        )
+
+    stone-few : (k : ℕ) → ((from : ℕ) → from < 24 → length (targets rings b from) ≤ k) → (from : ℕ) → List·Memᴰ from (holding rings b 1)
+        → length (stoneMoves (λ n c. removable n c) rings b from (targets rings b from)) ≤ k * count 2 b
+    stone-few k few from i =
+        let h = holding-is rings b 1 from i in
+        le-trans (each-le (λ to. slideMoves (λ n c. removable n c) rings b from to) (count 2 b) (targets rings b from) (λ to t. slide-few from to (h .1) (h .0) t))
+        (mul-le-mul-right (count 2 b) (few from (omega (arith, h .0))))
+
+    all-few : (k : ℕ) → ((from : ℕ) → from < 24 → length (targets rings b from) ≤ k) → length (moves (λ n c. removable n c) rings b) ≤ count 1 b * (k * count 2 b)
+    unfolding moves
+    all-few k few =
+        subst (λ (n : ℕ). length (moves (λ n c. removable n c) rings b) ≤ n * (k * count 2 b)) (length-holding b whole 1)
+        (each-le (λ from. stoneMoves (λ n c. removable n c) rings b from (targets rings b from)) (k * count 2 b) (holding rings b 1) (λ from i. stone-few k few from i))
+
+    pub moves-bound : length (moves (λ n c. removable n c) rings b) ≤ 324
+    moves-bound = go (eqb (count 1 b) 3) refl
+      where
+        vacant : count 0 b + count 1 b + count 2 b ≤ 24
+        vacant = omega (arith, count-all b values, whole)
+
+        product : (m z o : ℕ) → m ≡ 3 → z + m + o ≤ 24 → o ≤ 9 → m * (z * o) ≤ 324
+        product m z o e h l =
+            let a : (21 - o) * o ≤ 108 = leb-true _ _ (passed (λ o. leb ((21 - o) * o) 108) 10 0 o refl (omega arith) (omega arith)) in
+            let c : z * o ≤ (21 - o) * o = mul-le-mul-right o (omega (arith, e, h)) in
+            rw e (omega (arith, a, c))
+
+        go : (x : Bool) → eqb (count 1 b) 3 ≡ x → length (moves (λ n c. removable n c) rings b) ≤ 324
+        go true e =
+            le-trans (all-few (count 0 b) (λ from h. jump-few from)) (product (count 1 b) (count 0 b) (count 2 b) (eqb-true (count 1 b) 3 e) vacant o)
+        go false e =
+            le-trans (all-few 4 (λ from h. near-few (eqb-false (count 1 b) 3 e) from h)) (le-trans (mul-le-mul-right (4 * count 2 b) m) (omega arith))

@@ -1,0 +1,106 @@
+-- The sets derived from the fixed tables: which mill goes through a point, by one computed test over all points, and what the sets are good for:
+-- a full mill through a point is a count of three in one of its two sets. Assumes nothing.
+use mathlib.Core.Path.{_≡_, refl, sym, ap, ap₂, subst, _∙_}
+use mathlib.Core.Bool.{Bool, true, false, cond, not, _&&_, _||_, false≢true}
+use mathlib.Core.List.{List, [], _∷_, List·Memᴰ}
+use Prim.Native.Nat.{ℕ, zero, suc, _+_, _-_, _*_, _/_, _%_, _≤_, _<_}
+use native.Mathlib.Nat.{zero-add}
+use native.Mathlib.Omega.{arith}
+use lib.Dec.{eqb, ltb, leb}
+use lib.ListN.{length, getD}
+use borrow.Author.Tests.{eqb-true, leb-true, le-leb, lt-leb}
+use Rattle.lists.specs.Lists.{range, keep, all, any, member}
+use Rattle.lists.proofs.Table.{passed}
+use Rattle.lists.proofs.Members.{keep-member, range-member, getD-member}
+use Rattle.sets.specs.Sets.{with, withAll, setFrom}
+use Rattle.board.specs.Geometry.{points, follows, inward, adjoin, neighbours, ringMills, crossMills, mills}
+use Rattle.board.specs.Tables.{millPoint}
+use Rattle.rules.specs.Masks.{millNumbers, millsThrough}
+
+-- which mill goes through a point, as the code finds it
+abbrev throughNumber : ℕ → ℕ → ℕ
+throughNumber p j =
+    cond (eqb (p % 2) 1) (cond (eqb j 0) (4 * (p / 8) + p % 8 / 2) (12 + p % 8 / 2)) (cond (eqb (p % 8 / 2) 0) (4 * (p / 8) + 3 * j) (4 * (p / 8) + p % 8 / 2 - 1 + j))
+
+numberAt : ℕ → ℕ → Bool
+numberAt j p = eqb (throughNumber p j) (getD (millNumbers p) j 0)
+
+-- a mill of the sixteen as a set, where it is one of the board's
+abbrev maskOf : ℕ → ℕ → ℕ
+maskOf rings i = cond (leb (length (mills rings)) i) 0 (with (with (with 0 (millPoint i 0)) (millPoint i 1)) (millPoint i 2))
+
+maskAt : ℕ → ℕ → ℕ → Bool
+maskAt rings j p = eqb (maskOf rings (getD (millNumbers p) j 0)) (setFrom (getD (millsThrough rings p) j []))
+
+module _ (p j : ℕ) (hp : p < 24) (hj : j < 2) where
+  pub number-is : throughNumber p j ≡ getD (millNumbers p) j 0
+  unfolding numberAt millNumbers mills ringMills crossMills
+  number-is = go j hj
+    where
+      at : (j : ℕ) → all (numberAt j) (range 0 24) ≡ true → throughNumber p j ≡ getD (millNumbers p) j 0
+      at j t = eqb-true _ _ (passed (numberAt j) 24 0 p t (omega arith) (omega arith))
+
+      go : (j : ℕ) → j < 2 → throughNumber p j ≡ getD (millNumbers p) j 0
+      go zero h = at 0 refl
+      go (suc zero) h = at 1 refl
+      go (suc (suc j)) h = absurd (omega arith)
+
+  pub mask-is : (rings : ℕ) → 1 ≤ rings → rings ≤ 3 → maskOf rings (getD (millNumbers p) j 0) ≡ setFrom (getD (millsThrough rings p) j [])
+  unfolding maskAt millNumbers millsThrough millPoint mills ringMills crossMills setFrom withAll
+  mask-is = λ rings l h. go rings j l h hj
+    where
+      at : (rings j : ℕ) → all (maskAt rings j) (range 0 24) ≡ true → maskOf rings (getD (millNumbers p) j 0) ≡ setFrom (getD (millsThrough rings p) j [])
+      at rings j t = eqb-true _ _ (passed (maskAt rings j) 24 0 p t (omega arith) (omega arith))
+
+      go : (rings j : ℕ) → 1 ≤ rings → rings ≤ 3 → j < 2 → maskOf rings (getD (millNumbers p) j 0) ≡ setFrom (getD (millsThrough rings p) j [])
+      go zero j l h k = absurd (omega arith)
+      go (suc zero) zero l h k = at 1 0 refl
+      go (suc zero) (suc zero) l h k = at 1 1 refl
+      go (suc zero) (suc (suc j)) l h k = absurd (omega arith)
+      go (suc (suc zero)) zero l h k = at 2 0 refl
+      go (suc (suc zero)) (suc zero) l h k = at 2 1 refl
+      go (suc (suc zero)) (suc (suc j)) l h k = absurd (omega arith)
+      go (suc (suc (suc zero))) zero l h k = at 3 0 refl
+      go (suc (suc (suc zero))) (suc zero) l h k = at 3 1 refl
+      go (suc (suc (suc zero))) (suc (suc j)) l h k = absurd (omega arith)
+      go (suc (suc (suc (suc r)))) j l h k = absurd (omega arith)
+
+  -- where the mill is none of the board's, and where it is one
+  module _ (rings : ℕ) (l : 1 ≤ rings) (h : rings ≤ 3) where
+    abbrev number : ℕ
+    number = getD (millNumbers p) j 0
+
+    pub mask-absent : length (mills rings) ≤ number → 0 ≡ setFrom (getD (millsThrough rings p) j [])
+    mask-absent a = rw (le-leb (length (mills rings)) number a) at (mask-is rings l h)
+
+    pub mask-present : number < length (mills rings)
+        → with (with (with 0 (millPoint number 0)) (millPoint number 1)) (millPoint number 2) ≡ setFrom (getD (millsThrough rings p) j [])
+    mask-present a = rw (lt-leb (length (mills rings)) number a) at (mask-is rings l h)
+
+-- how many mills a board has
+pub all-mills : (rings : ℕ) → rings ≡ 3 → 16 ≡ length (mills rings)
+unfolding mills ringMills crossMills
+all-mills rings e = rw e refl
+
+pub ring-mills : (rings : ℕ) → 1 ≤ rings → rings ≤ 3 → (rings ≡ 3 → ⊥) → 4 * rings ≡ length (mills rings)
+unfolding mills ringMills crossMills
+ring-mills zero l h n = absurd (omega arith)
+ring-mills (suc zero) l h n = refl
+ring-mills (suc (suc zero)) l h n = refl
+ring-mills (suc (suc (suc zero))) l h n = absurd (n refl)
+ring-mills (suc (suc (suc (suc r)))) l h n = absurd (omega arith)
+
+-- a point has four neighbours at the most, all of them points
+fewAt : ℕ → Bool
+fewAt p = leb (length (neighbours 3 p)) 4
+
+pub neighbours-few : (p : ℕ) → p < 24 → length (neighbours 3 p) ≤ 4
+unfolding fewAt neighbours points adjoin follows inward
+neighbours-few p h = leb-true _ _ (passed fewAt 24 0 p refl (omega arith) (omega arith))
+
+pub neighbour-low : (p j : ℕ) → j < length (neighbours 3 p) → getD (neighbours 3 p) j 0 < 24
+unfolding neighbours points
+neighbour-low p j h =
+    let m = keep-member (λ q. adjoin p q) (points 3) (getD-member (neighbours 3 p) j h) in
+    let r : getD (neighbours 3 p) j 0 < 0 + 24 = range-member 24 0 (m .0) .1 in
+    subst (λ (n : ℕ). getD (neighbours 3 p) j 0 < n) (zero-add 24) r

@@ -1,0 +1,135 @@
+-- Mills on sets: a mill is full where a set has three points in common with it, and a point has two mills at the most. And who stands in a mill
+-- depends on the points of the board alone. Assumes nothing.
+use mathlib.Core.Path.{_≡_, refl, sym, ap, ap₂, _∙_}
+use mathlib.Core.Bool.{Bool, true, false, not, _&&_, _||_, false≢true}
+use mathlib.Core.List.{List, [], _∷_, List·Memᴰ, List·Memᴰ·head, List·Memᴰ·tail}
+use Prim.Native.Nat.{ℕ, zero, suc, _+_, _*_, _^_, _≤_, _<_}
+use native.Mathlib.Omega.{arith}
+use lib.Bits.{bitAnd, and-le-l, and-zero-r}
+use lib.Count.{ones}
+use lib.Dec.{eqb, ltb, leb}
+use lib.ListN.{length, getD}
+use borrow.Author.Tests.{leb-true, ltb-true, eqb-false, not-true}
+use Rattle.lists.specs.Lists.{range, keep, all, any, member}
+use Rattle.lists.proofs.Table.{passed}
+use Rattle.lists.proofs.Members.{keep-member}
+use Rattle.lists.proofs.Tests.{all-member, any-both, any-same, all-same, and-left, and-right}
+use Rattle.sets.specs.Sets.{bit, has, members, with, withAll, setFrom}
+use Rattle.sets.proofs.Laws.{members-all, ones-three, has-all-three}
+use Rattle.board.specs.Geometry.{ringMills, crossMills, mills}
+use Rattle.rules.specs.Ply.{inMill}
+use Rattle.rules.specs.Masks.{millsThrough}
+
+-- three different points
+abbrev proper : List ℕ → Bool
+proper [] = false
+proper (a ∷ []) = false
+proper (a ∷ b ∷ []) = false
+proper (a ∷ b ∷ c ∷ []) = not (eqb b a) && (not (eqb c a) && not (eqb c b))
+proper (a ∷ b ∷ c ∷ d ∷ l) = false
+
+-- every mill has three different points
+mill-proper : (rings : ℕ) → rings ≤ 3 → (l : List ℕ) → List·Memᴰ l (mills rings) → proper l ≡ true
+unfolding mills ringMills crossMills
+mill-proper rings h l m = all-member proper (mills rings) (go rings h) l m
+  where
+    go : (rings : ℕ) → rings ≤ 3 → all proper (mills rings) ≡ true
+    go zero h = refl
+    go (suc zero) h = refl
+    go (suc (suc zero)) h = refl
+    go (suc (suc (suc zero))) h = refl
+    go (suc (suc (suc (suc r)))) h = absurd (omega arith)
+
+-- a set has all three points of a mill
+abbrev pub full : ℕ → List ℕ → Bool
+full s l = eqb (members (bitAnd s (setFrom l)) 32) 3
+
+full-none : (s : ℕ) → s < 2 ^ 32 → full s [] ≡ false
+unfolding setFrom withAll ones
+full-none s h =
+    let z : bitAnd s 0 ≡ 0 = and-zero-r s in
+    ap (λ (x : ℕ). eqb x 3) (ap (λ (x : ℕ). members x 32) z ∙ members-all 0 32 (omega arith))
+
+full-three : (s : ℕ) → s < 2 ^ 32 → (l : List ℕ) → proper l ≡ true → full s l ≡ all (λ p. has s p) l
+unfolding setFrom withAll
+full-three s h [] e = absurd (false≢true e)
+full-three s h (a ∷ []) e = absurd (false≢true e)
+full-three s h (a ∷ b ∷ []) e = absurd (false≢true e)
+full-three s h (a ∷ b ∷ c ∷ []) e =
+    let k = and-right (not (eqb b a)) (not (eqb c a) && not (eqb c b)) e in
+    let ba = eqb-false b a (not-true (eqb b a) (and-left (not (eqb b a)) (not (eqb c a) && not (eqb c b)) e)) in
+    let ca = eqb-false c a (not-true (eqb c a) (and-left (not (eqb c a)) (not (eqb c b)) k)) in
+    let cb = eqb-false c b (not-true (eqb c b) (and-right (not (eqb c a)) (not (eqb c b)) k)) in
+    let m : ℕ = with (with (with 0 a) b) c in
+    ap (λ (x : ℕ). eqb x 3) (members-all (bitAnd s m) 32 (omega (arith, and-le-l s m)) ∙ ones-three s a b c ba ca cb)
+    ∙ has-all-three s a b c ∙ three (has s a) (has s b) (has s c)
+  where
+    three : (x y z : Bool) → (x && (y && z)) ≡ elim x [ true ↦ elim y [ true ↦ elim z [ true ↦ true | false ↦ false ] | false ↦ false ] | false ↦ false ]
+    three true true true = refl
+    three true true false = refl
+    three true false z = refl
+    three false y z = refl
+full-three s h (a ∷ b ∷ c ∷ d ∷ l) e = absurd (false≢true e)
+
+-- a point has two mills at the most
+twoAt : ℕ → ℕ → Bool
+twoAt rings p = leb (length (millsThrough rings p)) 2
+
+two-mills : (rings p : ℕ) → rings ≤ 3 → p < 24 → length (millsThrough rings p) ≤ 2
+unfolding twoAt millsThrough mills ringMills crossMills
+two-mills rings p h l = go rings h
+  where
+    at : (rings : ℕ) → all (twoAt rings) (range 0 24) ≡ true → length (millsThrough rings p) ≤ 2
+    at rings t = leb-true _ _ (passed (twoAt rings) 24 0 p t (omega arith) (omega arith))
+
+    go : (rings : ℕ) → rings ≤ 3 → length (millsThrough rings p) ≤ 2
+    go zero h = at 0 refl
+    go (suc zero) h = at 1 refl
+    go (suc (suc zero)) h = at 2 refl
+    go (suc (suc (suc zero))) h = at 3 refl
+    go (suc (suc (suc (suc r)))) h = absurd (omega arith)
+
+-- so a set's point stands in a mill where one of its two is full
+pub in-mill-is : (rings s p : ℕ) → rings ≤ 3 → s < 2 ^ 32 → p < 24
+    → (full s (getD (millsThrough rings p) 0 []) || full s (getD (millsThrough rings p) 1 [])) ≡ inMill rings (λ q. has s q) p
+unfolding inMill millsThrough
+in-mill-is rings s p h w l =
+    either (millsThrough rings p) (two-mills rings p h l)
+    ∙ any-same (full s) (λ mill. all (λ q. has s q) mill) (millsThrough rings p)
+    (λ x m. full-three s w x (mill-proper rings h x (keep-member (λ mill. member p mill) (mills rings) m .0)))
+    ∙ sym (any-both (λ mill. member p mill) (λ mill. all (λ q. has s q) mill) (mills rings))
+  where
+    either : (ls : List (List ℕ)) → length ls ≤ 2 → (full s (getD ls 0 []) || full s (getD ls 1 [])) ≡ any (full s) ls
+    either [] k = ap₂ _||_ (full-none s w) (full-none s w)
+    either (x ∷ []) k = ap (λ (b : Bool). full s x || b) (full-none s w) ∙ one (full s x)
+      where
+        one : (b : Bool) → (b || false) ≡ elim b [ true ↦ true | false ↦ false ]
+        one true = refl
+        one false = refl
+    either (x ∷ y ∷ []) k = two (full s x) (full s y)
+      where
+        two : (a b : Bool) → (a || b) ≡ elim a [ true ↦ true | false ↦ elim b [ true ↦ true | false ↦ false ] ]
+        two true b = refl
+        two false true = refl
+        two false false = refl
+    either (x ∷ y ∷ z ∷ ls) k = absurd (omega arith)
+
+-- the points of a mill are points of the board
+pub mill-low : (rings : ℕ) → rings ≤ 3 → (l : List ℕ) → List·Memᴰ l (mills rings) → (q : ℕ) → List·Memᴰ q l → q < 8 * rings
+unfolding mills ringMills crossMills
+mill-low rings h l m q k =
+    ltb-true q (8 * rings) (all-member (λ x. ltb x (8 * rings)) l (all-member (λ x. all (λ y. ltb y (8 * rings)) x) (mills rings) (go rings h) l m) q k)
+  where
+    go : (rings : ℕ) → rings ≤ 3 → all (λ x. all (λ y. ltb y (8 * rings)) x) (mills rings) ≡ true
+    go zero h = refl
+    go (suc zero) h = refl
+    go (suc (suc zero)) h = refl
+    go (suc (suc (suc zero))) h = refl
+    go (suc (suc (suc (suc r)))) h = absurd (omega arith)
+
+-- tests that agree on the points of the board agree on mills
+pub in-mill-same : (rings : ℕ) → rings ≤ 3 → (f g : ℕ → Bool) → ((q : ℕ) → q < 8 * rings → f q ≡ g q) → (p : ℕ) → inMill rings f p ≡ inMill rings g p
+unfolding inMill
+in-mill-same rings h f g e p =
+    any-same (λ mill. member p mill && all f mill) (λ mill. member p mill && all g mill) (mills rings)
+    (λ l m. ap (λ (b : Bool). member p l && b) (all-same f g l (λ q k. e q (mill-low rings h l m q k))))

@@ -1,0 +1,11 @@
+pub mod Bound
+pub mod Derived
+pub mod FullMills
+pub mod Listed
+pub mod Leads
+pub mod Numbers
+pub mod OnPositions
+pub mod OnSets
+pub mod Rises
+pub mod Stones
+pub mod Worked

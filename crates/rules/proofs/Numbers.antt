@@ -1,0 +1,141 @@
+-- A move number, tested part by part on a position's sets, and the sets after the move. Assumes nothing.
+use mathlib.Core.Path.{_≡_, refl, sym, ap, ap₂, subst, _∙_}
+use mathlib.Core.Bool.{Bool, true, false, true≢false}
+use mathlib.Core.List.{List, [], _∷_, map, List·Memᴰ}
+use mathlib.Core.Logic.{_⊎_, inl, inr, ⊎-elim}
+use Prim.Native.Nat.{ℕ, zero, suc, _+_, _*_, _/_, _%_, _^_, _≤_, _<_}
+use native.Mathlib.Omega.{arith}
+use lib.Dec.{eqb}
+use lib.ListN.{length, getD, set}
+use borrow.Author.Tests.{eq-eqb, ne-eqb}
+use Rattle.lists.specs.Lists.{member}
+use Rattle.lists.proofs.Members.{keep-member}
+use Rattle.lists.proofs.Tests.{is-member, member-is, same-test}
+use Rattle.sets.specs.Sets.{bit, has, with, without, setFrom}
+use Rattle.sets.proofs.Laws.{bit-cases, without-absent}
+use Rattle.sets.proofs.Elements.{bit-from, from-bit, bit-low}
+use Rattle.board.specs.declared.position.Position.{Position}
+use Rattle.board.specs.Board.{Values, digit, setOf, positionOf, boardOf}
+use Rattle.board.proofs.Sides.{length-board, board-values, bit-set, position-sides}
+use Rattle.board.proofs.Stores.{set-without}
+use Rattle.board.proofs.OneToOne.{mover-set, opponent-set, mover-at, mover-bit}
+use Rattle.rules.specs.Ply.{holding, targets, slide, removable, noRemoval, removals, fromOf, toOf, removedOf, moves, remove, exchange, afterPly}
+use Rattle.rules.specs.Positions.{Placed, Slide}
+use Rattle.rules.proofs.Listed.{Move, Listed, move-of, of-move, removable-takes, target-of, of-target, target-vacant}
+use Rattle.rules.proofs.Leads.{Removed, Before, listed-parts, slide-length, removed-of, removed-before}
+use Rattle.rules.proofs.OnSets.{slide-mover, slide-opponent}
+use Rattle.rules.proofs.OnPositions.{opponent-small}
+
+-- the sides change names, and so do their sets
+pub exchange-sets : (b : List ℕ) → Values b → (setOf 1 (map (λ v. exchange v) b) ≡ setOf 2 b) × (setOf 2 (map (λ v. exchange v) b) ≡ setOf 1 b)
+unfolding exchange setOf
+exchange-sets [] h = (refl, refl)
+exchange-sets (zero ∷ b) h = let s = exchange-sets b (h .1) in (ap (λ (x : ℕ). 0 + 2 * x) (s .0), ap (λ (x : ℕ). 0 + 2 * x) (s .1))
+exchange-sets (suc zero ∷ b) h = let s = exchange-sets b (h .1) in (ap (λ (x : ℕ). 0 + 2 * x) (s .0), ap (λ (x : ℕ). 1 + 2 * x) (s .1))
+exchange-sets (suc (suc zero) ∷ b) h = let s = exchange-sets b (h .1) in (ap (λ (x : ℕ). 1 + 2 * x) (s .0), ap (λ (x : ℕ). 0 + 2 * x) (s .1))
+exchange-sets (suc (suc (suc v)) ∷ b) h = absurd (omega arith)
+
+module _ (rings : ℕ) (position : Position) (placed : Placed rings position) (n : ℕ) where
+  abbrev board : List ℕ
+  board = boardOf (8 * rings) position
+
+  abbrev rule : ℕ → List ℕ → List ℕ
+  rule r b = removable r b
+
+  whole : length board ≡ 8 * rings
+  whole = length-board (8 * rings) position
+
+  values : Values board
+  values = board-values (8 * rings) position (placed .on)
+
+  -- a listed number's parts make a move, and a move's parts a listed number
+  parts : List·Memᴰ n (moves rule rings board) → Move rule rings board (fromOf n) (toOf n) (removedOf n)
+  parts m =
+      let l = move-of rule rings board n m in
+      let q = listed-parts rule removable-takes rings (placed .small) board values whole n l in
+      rw (q .from-is, q .to-is, q .removed-is) (l .move)
+
+  number : n ≡ 1024 * fromOf n + 32 * toOf n + removedOf n
+  number = omega arith
+
+  whole-number : Move rule rings board (fromOf n) (toOf n) (removedOf n) → List·Memᴰ n (moves rule rings board)
+  whole-number v = subst (λ (k : ℕ). List·Memᴰ k (moves rule rings board)) (sym number) (of-move rule rings board (fromOf n) (toOf n) (removedOf n) v)
+
+  -- the three tests
+  pub from-listed : member n (moves rule rings board) ≡ true → bit (position .mover) (fromOf n) ≡ 1
+  from-listed e = let v = parts (member-is n _ e) in mover-bit (8 * rings) position (placed .on) (fromOf n) (v .from-low) (v .own)
+
+  pub to-listed : member n (moves rule rings board) ≡ true → bit (setFrom (targets rings board (fromOf n))) (toOf n) ≡ 1
+  to-listed e = let v = parts (member-is n _ e) in
+      bit-from (targets rings board (fromOf n)) (toOf n) (of-target rings board (fromOf n) (toOf n) (v .to-low) (v .vacant) (v .reach))
+
+  pub removed-listed : member n (moves rule rings board) ≡ true → bit (setFrom (removals rule rings (slide board (fromOf n) (toOf n)) (toOf n))) (removedOf n) ≡ 1
+  removed-listed e = let v = parts (member-is n _ e) in bit-from _ (removedOf n) (v .removal)
+
+  pub all-listed : bit (position .mover) (fromOf n) ≡ 1 → bit (setFrom (targets rings board (fromOf n))) (toOf n) ≡ 1
+      → bit (setFrom (removals rule rings (slide board (fromOf n) (toOf n)) (toOf n))) (removedOf n) ≡ 1 → member n (moves rule rings board) ≡ true
+  all-listed f t r =
+      let own = mover-at (8 * rings) position (placed .on) (fromOf n) f in
+      let m = from-bit (targets rings board (fromOf n)) (toOf n) t in
+      let v = target-vacant rings board (fromOf n) (toOf n) m in
+      is-member n _ (whole-number record {
+        from-low = own .0;
+        to-low = v .0;
+        own = own .1;
+        vacant = v .1;
+        reach = target-of rings board (fromOf n) (toOf n) m;
+        removal = from-bit (removals rule rings (slide board (fromOf n) (toOf n)) (toOf n)) (removedOf n) r;
+      })
+
+  -- the sets after a listed move
+  module _ (e : member n (moves rule rings board) ≡ true) where
+    move : Move rule rings board (fromOf n) (toOf n) (removedOf n)
+    move = parts (member-is n _ e)
+
+    lf : fromOf n < length board
+    lf = subst (λ (k : ℕ). fromOf n < k) (sym whole) (move .from-low)
+
+    lt : toOf n < length board
+    lt = subst (λ (k : ℕ). toOf n < k) (sym whole) (move .to-low)
+
+    abbrev slid : List ℕ
+    slid = slide board (fromOf n) (toOf n)
+
+    slid-mover : setOf 1 slid ≡ with (without (position .mover) (fromOf n)) (toOf n)
+    slid-mover = slide-mover board (fromOf n) (toOf n) lf lt ∙ ap (λ (s : ℕ). with (without s (fromOf n)) (toOf n)) (mover-set (8 * rings) position (placed .on))
+
+    slid-opponent : setOf 2 slid ≡ position .opponent
+    slid-opponent = slide-opponent board (fromOf n) (toOf n) lf lt (move .own) (move .vacant) ∙ opponent-set (8 * rings) position (placed .on)
+
+    slid-whole : length slid ≡ length board
+    slid-whole = slide-length board (fromOf n) (toOf n) lf lt (move .own) (move .vacant)
+
+    removed : Removed slid (removedOf n)
+    removed = removed-of rule removable-takes rings (placed .small) board values whole (fromOf n) (toOf n) (removedOf n) move
+
+    removed-sets : (r : ℕ) → Removed slid r → (setOf 1 (remove slid r) ≡ setOf 1 slid) × (setOf 2 (remove slid r) ≡ without (setOf 2 slid) r)
+    unfolding remove
+    removed-sets r (inl q) =
+        let z : bit (setOf 2 slid) r ≡ 0 = ⊎-elim (λ a. a) (λ a. absurd (omega (arith, q, bit-low 24 (setOf 2 slid) r small a))) (bit-cases (setOf 2 slid) r) in
+        rw (eq-eqb r noRemoval q, remove) (refl, sym (without-absent (setOf 2 slid) r z))
+      where
+        small : setOf 2 slid < 2 ^ 24
+        small = rw slid-opponent (opponent-small rings position placed)
+    removed-sets r (inr h) =
+        rw (ne-eqb r noRemoval (λ q. omega (arith, h .1)), remove) (
+          set-without 1 slid r 0 (h .0) refl ∙ without-absent (setOf 1 slid) r (bit-set 1 slid r (h .0) ∙ ap (λ (x : ℕ). digit (eqb x 1)) (h .2)),
+          set-without 2 slid r 0 (h .0) refl,
+        )
+
+    -- the opponent's stones, less the one removed, are the next mover's
+    pub after-sets : positionOf (afterPly board n) ≡ record { mover = without (position .opponent) (removedOf n); opponent = with (without (position .mover) (fromOf n)) (toOf n) }
+    unfolding afterPly
+    after-sets =
+        let w = removed-before board (fromOf n) (toOf n) (removedOf n) lf lt (move .own) (move .vacant) values removed in
+        let x = exchange-sets (remove slid (removedOf n)) (w .values) in
+        let r = removed-sets (removedOf n) removed in
+        position-sides (afterPly board n)
+        ∙ ap₂ (λ (a c : ℕ). sides a c) (x .0 ∙ r .1 ∙ ap (λ (s : ℕ). without s (removedOf n)) slid-opponent) (x .1 ∙ r .0 ∙ slid-mover)
+      where
+        sides : ℕ → ℕ → Position
+        sides a c = record { mover = a; opponent = c }

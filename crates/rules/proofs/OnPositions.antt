@@ -1,0 +1,80 @@
+-- What the functions on a position find is what the definitions say of its board. Assumes nothing.
+use mathlib.Core.Path.{_≡_, sym, ap, ap₂, subst, _∙_}
+use mathlib.Core.Bool.{Bool, true, false, not}
+use mathlib.Core.List.{List}
+use Prim.Native.Nat.{ℕ, _*_, _^_, _≤_, _<_}
+use native.Mathlib.Nat.{lt-of-lt-of-le}
+use native.Mathlib.Omega.{arith}
+use lib.ListN.{length, getD}
+use lib.Pow.{pow-mono}
+use Rattle.lists.specs.Lists.{keep, orElse}
+use Rattle.sets.specs.Sets.{bit, has, with, without, elements, setFrom}
+use Rattle.sets.proofs.Elements.{from-first, from-second, from-elements}
+use Rattle.board.specs.declared.position.Position.{Position}
+use Rattle.board.specs.Board.{boardOf}
+use Rattle.board.proofs.Sides.{length-board}
+use Rattle.board.proofs.OneToOne.{mover-set, opponent-set, mover-at, vacant-at}
+use Rattle.rules.specs.Positions.{Placed, Slide}
+use Rattle.rules.specs.Ply.{holds, inMill, slide, removable, removals}
+use Rattle.rules.proofs.OnSets.{unshieldedOf, removable-set, removals-open, removals-closed, removals-idle, slide-whole, removable-slide, in-mill-slide}
+
+module _ (rings : ℕ) (position : Position) (placed : Placed rings position) where
+  abbrev board : List ℕ
+  board = boardOf (8 * rings) position
+
+  whole : length board ≡ 8 * rings
+  whole = length-board (8 * rings) position
+
+  pub opponent-small : position .opponent < 2 ^ 24
+  opponent-small = lt-of-lt-of-le (placed .on .opponent-within) (pow-mono {i = 8 * rings} {j = 24} (omega (arith, placed .small)))
+
+  pub mover-small : position .mover < 2 ^ 24
+  mover-small = lt-of-lt-of-le (placed .on .mover-within) (pow-mono {i = 8 * rings} {j = 24} (omega (arith, placed .small)))
+
+  removable-is : setFrom (removable rings board) ≡ setFrom (orElse (unshieldedOf rings (position .opponent)) (elements 32 (position .opponent)))
+  removable-is =
+      ap setFrom (removable-set rings (placed .small) board whole
+      ∙ ap (λ (s : ℕ). orElse (unshieldedOf rings s) (elements 32 s)) (opponent-set (8 * rings) position (placed .on)))
+
+  -- some stones stand outside any mill, or all in mills
+  pub removable-free : (setFrom (unshieldedOf rings (position .opponent)) ≡ 0 → ⊥)
+      → setFrom (removable rings board) ≡ setFrom (unshieldedOf rings (position .opponent))
+  removable-free n = removable-is ∙ from-first (unshieldedOf rings (position .opponent)) (elements 32 (position .opponent)) n
+
+  pub removable-all : setFrom (unshieldedOf rings (position .opponent)) ≡ 0 → setFrom (removable rings board) ≡ position .opponent
+  removable-all e =
+      removable-is ∙ from-second (unshieldedOf rings (position .opponent)) (elements 32 (position .opponent)) e
+      ∙ from-elements 32 (position .opponent) (lt-of-lt-of-le opponent-small (pow-mono {i = 24} {j = 32} (omega arith)))
+
+  -- a slide of one of the mover's stones to a vacant point
+  module _ (from to : ℕ) (slides : Slide rings position from to) where
+    pub from-low : from < 8 * rings
+    from-low = mover-at (8 * rings) position (placed .on) from (slides .own) .0
+
+    own-at : getD board from 0 ≡ 1
+    own-at = mover-at (8 * rings) position (placed .on) from (slides .own) .1
+
+    to-vacant : getD board to 0 ≡ 0
+    to-vacant = vacant-at (8 * rings) position (placed .on) to (slides .low) (slides .free) (slides .none)
+
+    abbrev moved : ℕ
+    moved = with (without (position .mover) from) to
+
+    closes : inMill rings (holds (slide board from to) 1) to ≡ inMill rings (λ q. has moved q) to
+    closes =
+        in-mill-slide rings (placed .small) board whole from to from-low (slides .low) own-at to-vacant
+        ∙ ap (λ (s : ℕ). inMill rings (λ q. has (with (without s from) to) q) to) (mover-set (8 * rings) position (placed .on))
+
+    same : setFrom (removable rings (slide board from to)) ≡ setFrom (removable rings board)
+    same = ap setFrom (removable-slide rings (placed .small) board whole from to from-low (slides .low) own-at to-vacant)
+
+    pub removed-none : inMill rings (λ q. has moved q) to ≡ false → 2 ^ 31 ≡ setFrom (removals (λ n b. removable n b) rings (slide board from to) to)
+    removed-none e = sym (removals-open (λ n b. removable n b) rings (slide board from to) to (closes ∙ e))
+
+    pub removed-one : inMill rings (λ q. has moved q) to ≡ true → (setFrom (removable rings board) ≡ 0 → ⊥)
+        → setFrom (removable rings board) ≡ setFrom (removals (λ n b. removable n b) rings (slide board from to) to)
+    removed-one e n = sym (removals-closed (λ n b. removable n b) rings (slide board from to) to (closes ∙ e) (λ z. n (sym same ∙ z)) ∙ same)
+
+    pub removed-idle : inMill rings (λ q. has moved q) to ≡ true → setFrom (removable rings board) ≡ 0
+        → 2 ^ 31 ≡ setFrom (removals (λ n b. removable n b) rings (slide board from to) to)
+    removed-idle e z = sym (removals-idle (λ n b. removable n b) rings (slide board from to) to (closes ∙ e) (same ∙ z))

@@ -1,0 +1,51 @@
+-- Worked boards, computed by the definitions: their moves, each list as document 01's rules give it by hand. Assumes nothing.
+use mathlib.Core.Path.{_≡_, refl}
+use mathlib.Core.Bool.{Bool, true, false}
+use mathlib.Core.List.{List, [], _∷_, reverse}
+use Prim.Native.Nat.{ℕ}
+use lib.Dec.{eqb}
+use Rattle.lists.specs.Lists.{all}
+use Rattle.board.specs.Geometry.{points, follows, inward, adjoin, ringMills, crossMills, mills}
+use Rattle.rules.specs.Ply.{holding, inMill, targets, slide, unshielded, removable, removals, moves}
+
+-- a board read from its highest point down, and its moves
+pub record Worked : Type 0 where
+  pub rings : ℕ
+  pub reading : List ℕ
+  pub numbers : List ℕ
+
+abbrev worked : ℕ → List ℕ → List ℕ → Worked
+worked rings b ns = record { rings = rings; reading = b; numbers = ns }
+
+abbrev same : List ℕ → List ℕ → Bool
+same [] [] = true
+same [] (y ∷ ys) = false
+same (x ∷ xs) [] = false
+same (x ∷ xs) (y ∷ ys) = elim (eqb x y) [ true ↦ same xs ys | false ↦ false ]
+
+pub holdsAt : Worked → Bool
+holdsAt w = same (moves (λ rings b. removable rings b) (w .rings) (reverse (w .reading))) (w .numbers)
+
+abbrev pub boards : List Worked
+boards =
+    -- document 01's own position
+    worked 1 (0 ∷ 2 ∷ 1 ∷ 2 ∷ 2 ∷ 0 ∷ 1 ∷ 1 ∷ []) (95 ∷ 255 ∷ 1119 ∷ 1279 ∷ 5187 ∷ 5188 ∷ 5190 ∷ 5375 ∷ [])
+    -- all opposing stones stand in a mill: any one may go
+    ∷ worked 1 (0 ∷ 1 ∷ 0 ∷ 1 ∷ 1 ∷ 2 ∷ 2 ∷ 2 ∷ []) (3232 ∷ 3233 ∷ 3234 ∷ 3327 ∷ 4287 ∷ 4351 ∷ 6335 ∷ 6399 ∷ [])
+    -- a mill shields its stones while another stands outside
+    ∷ worked 1 (2 ∷ 1 ∷ 0 ∷ 1 ∷ 1 ∷ 2 ∷ 2 ∷ 2 ∷ []) (3239 ∷ 4287 ∷ 6335 ∷ [])
+    -- 1 to 2 is no mill with 0: the vacated point no longer counts
+    ∷ worked 1 (2 ∷ 2 ∷ 2 ∷ 0 ∷ 1 ∷ 0 ∷ 1 ∷ 1 ∷ []) (95 ∷ 159 ∷ 1119 ∷ 1183 ∷ 3141 ∷ 3142 ∷ 3143 ∷ 3231 ∷ [])
+    -- four stones do not jump: a blocked mover
+    ∷ worked 1 (2 ∷ 0 ∷ 2 ∷ 1 ∷ 1 ∷ 2 ∷ 1 ∷ 1 ∷ []) []
+    -- two rings: a stone comes in from the other ring
+    ∷ worked 2 (0 ∷ 0 ∷ 0 ∷ 1 ∷ 0 ∷ 0 ∷ 1 ∷ 0 ∷ 0 ∷ 2 ∷ 2 ∷ 2 ∷ 0 ∷ 1 ∷ 0 ∷ 1 ∷ [])
+    (63 ∷ 255 ∷ 2111 ∷ 2175 ∷ 9252 ∷ 9253 ∷ 9254 ∷ 9503 ∷ 9567 ∷ 12671 ∷ 12735 ∷ [])
+    -- three rings: mills across the rings, one of each side
+    ∷ worked 3 (1 ∷ 0 ∷ 0 ∷ 2 ∷ 2 ∷ 1 ∷ 0 ∷ 0 ∷ 0 ∷ 0 ∷ 0 ∷ 0 ∷ 2 ∷ 0 ∷ 1 ∷ 0 ∷ 0 ∷ 0 ∷ 0 ∷ 0 ∷ 2 ∷ 0 ∷ 1 ∷ 0 ∷ [])
+    (1055 ∷ 1119 ∷ 9503 ∷ 9567 ∷ 9791 ∷ 18996 ∷ 24063 ∷ 24095 ∷ 24287 ∷ [])
+    ∷ []
+
+pub worked-hold : all (λ w. holdsAt w) boards ≡ true
+unfolding holdsAt moves holding inMill targets slide unshielded removable removals points follows inward adjoin ringMills crossMills mills
+worked-hold = refl

@@ -1,0 +1,23 @@
+-- `rules::plies::removable` meets its contract. Assumes nothing.
+use mathlib.Core.Path.{sym, _∙_}
+use Rattle.rules.proofs.OnPositions.{opponent-small, removable-free, removable-all}
+use Rattle.rules.proofs.plies.removable.Statement.{statement}
+use Rattle.rules.proofs.plies.removable.Tie as tie
+
+unshielded-requires : tie.Need-unshielded-requires
+unshielded-requires c κs =
+    (c .pre .0, (c .pre .1 .small, opponent-small (c .args .rings) (c .args .position) (c .pre .1)))
+
+returns : tie.Need-returns
+returns c =
+    let s = c .before .before in
+    sym (removable-all (s .args .rings) (s .args .position) (s .pre .1) (sym (c .before .unshielded .ensures) ∙ c .if1 .taken))
+
+returns-2 : tie.Need-returns-2
+returns-2 c =
+    let s = c .before .before in
+    let e = c .before .unshielded .ensures in
+    e ∙ sym (removable-free (s .args .rings) (s .args .position) (s .pre .1) (λ z. c .if1 .left (e ∙ z)))
+
+pub removable-spec : {M : Type 1} → statement M
+removable-spec = tie.close (tie.spec unshielded-requires returns returns-2)

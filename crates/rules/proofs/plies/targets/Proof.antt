@@ -1,0 +1,58 @@
+-- `rules::plies::targets` meets its contract. Assumes nothing.
+use mathlib.Core.Path.{_≡_, sym, ap₂, _∙_}
+use mathlib.Core.List.{List}
+use Prim.Native.Nat.{ℕ, _*_}
+use native.Mathlib.Omega.{arith}
+use lib.Bits.{bitAnd}
+use Rattle.board.specs.Board.{boardOf}
+use Rattle.board.proofs.Sides.{length-board}
+use Rattle.board.proofs.OneToOne.{mover-count}
+use Rattle.rules.proofs.OnSets.{targets-jump, targets-slide}
+use borrow.Author.Needs.{needs}
+use Rattle.rules.proofs.plies.targets.Statement.{statement}
+use Rattle.rules.proofs.plies.targets.Tie as tie
+
+mul-vacant : tie.Need-mul-vacant
+mul-vacant c = search needs
+
+vacant-requires : tie.Need-vacant-requires
+vacant-requires c κs = search needs
+
+count-requires : tie.Need-count-requires
+count-requires c κs = search needs
+
+returns : tie.Need-returns
+returns c =
+    let s = c .before .before .before in
+    let a = s .args in
+    let n : ℕ = 8 * a .rings in
+    c .before .before .vacant .ensures
+    ∙ sym (targets-jump (a .rings) (s .pre .1 .0 .small) (boardOf n (a .position)) (length-board n (a .position)) (a .from)
+    (sym (mover-count n (a .position) (s .pre .1 .0 .on) (omega (arith, s .pre .1 .0 .small))) ∙ sym (c .before .count .ensures) ∙ c .if1 .taken))
+
+mul-result : tie.Need-mul-result
+mul-result c = search needs
+
+element-copy-out-result : tie.Need-element-copy-out-result
+element-copy-out-result c = search needs
+
+returns-2 : tie.Need-returns-2
+returns-2 c =
+    let s = c .before .before .before .before in
+    let a = s .args in
+    let n : ℕ = 8 * a .rings in
+    ap₂ bitAnd (c .before .before .before .vacant .ensures) (s .pre .0 .at (a .from) (s .pre .1 .1))
+    ∙ sym (targets-slide (a .rings) (s .pre .1 .0 .small) (boardOf n (a .position)) (length-board n (a .position)) (a .from)
+    (λ e. c .before .if1 .left (c .before .before .count .ensures ∙ mover-count n (a .position) (s .pre .1 .0 .on) (omega (arith, s .pre .1 .0 .small)) ∙ e)))
+
+pub targets-spec : {M : Type 1} → statement M
+targets-spec =
+    tie.close
+    (tie.spec
+    mul-vacant
+    vacant-requires
+    count-requires
+    returns
+    mul-result
+    element-copy-out-result
+    returns-2)

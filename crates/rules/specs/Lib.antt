@@ -1,0 +1,3 @@
+pub mod Ply
+pub mod Masks
+pub mod Positions

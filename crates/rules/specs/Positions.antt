@@ -1,0 +1,22 @@
+-- What the functions on a position ask of their caller. Assumes nothing.
+use mathlib.Core.Path.{_≡_}
+use Prim.Native.Nat.{ℕ, _*_, _≤_, _<_}
+use Rattle.sets.specs.Sets.{bit}
+use Rattle.board.specs.declared.position.Position.{Position}
+use Rattle.board.specs.Board.{OnBoard}
+
+-- a position of a board of one, two or three rings
+pub record Placed (rings : ℕ) (position : Position) : Type 0 where
+  pub small : rings ≤ 3
+  pub on : OnBoard (8 * rings) position
+
+-- a stone of the mover's, and a vacant point
+pub record Slide (rings : ℕ) (position : Position) (from to : ℕ) : Type 0 where
+  pub own : bit (position .mover) from ≡ 1
+  pub low : to < 8 * rings
+  pub free : bit (position .mover) to ≡ 0
+  pub none : bit (position .opponent) to ≡ 0
+
+-- vacant points
+abbrev pub Vacant : ℕ → Position → ℕ → ℕ → Type 0
+Vacant rings position from tos = (to : ℕ) → bit tos to ≡ 1 → Slide rings position from to

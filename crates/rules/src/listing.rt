@@ -1,0 +1,123 @@
+// The moves of a position: counted, and written as a list.
+ghost use mathlib.Core.Path.{_≡_};
+ghost use mathlib.Core.List.{map};
+ghost use Prim.Native.Nat.{_+_, _*_, _^_, _≤_, _<_};
+ghost use lib.ListN.{length};
+ghost use lib.Seq.{sets};
+ghost use Rattle.sets.specs.Sets.{elements};
+ghost use Rattle.board.specs.Board.{boardOf};
+ghost use Rattle.rules.specs.Ply.{removable, stoneMoves, moves};
+ghost use Rattle.rules.specs.Masks.{NeighbourMasks, MillMasks};
+ghost use Rattle.rules.specs.Positions.{Placed, Vacant};
+
+// How many moves one stone has to the points of a set.
+fn count_stone(
+    rings: usize,
+    mills: &[u32; 48],
+    position: board::Position,
+    from: usize,
+    tos: u32,
+) -> usize
+    requires { ⌜ MillMasks rings (now mills) ⌝ }
+    requires { ⌜ Placed rings position × Vacant rings position from tos ⌝ }
+    ensures { λ r. ⌜ (r ≡ length (stoneMoves (λ n b. removable n b) rings (boardOf (8 * rings) position) from (elements 32 tos))) × (r ≤ 1024) ⌝ }
+{
+    let mut n = 0;
+    let mut left = tos;
+    while left != 0 {
+        let to = sets::lowest(left);
+        n += sets::count(crate::plies::removals(rings, mills, position, from, to)) as usize;
+        left = sets::without(left, to);
+    }
+    n
+}
+
+// How many moves a position has.
+pub fn count_moves(
+    rings: usize,
+    near: &[u32; 24],
+    mills: &[u32; 48],
+    position: board::Position,
+) -> usize
+    requires { ⌜ NeighbourMasks rings (now near) ⌝ }
+    requires { ⌜ MillMasks rings (now mills) ⌝ }
+    requires { ⌜ Placed rings position ⌝ }
+    ensures { λ r. ⌜ r ≡ length (moves (λ n b. removable n b) rings (boardOf (8 * rings) position)) ⌝ }
+{
+    let mut n = 0;
+    let mut left = position.mover;
+    while left != 0 {
+        let from = sets::lowest(left);
+        let tos = crate::plies::targets(rings, near, position, from);
+        n += count_stone(rings, mills, position, from, tos);
+        left = sets::without(left, from);
+    }
+    n
+}
+
+// Writes a move for each point of a set that it may remove, and answers the next place.
+fn list_removals(base: usize, removals: u32, list: &mut [u16], at: usize) -> usize
+    requires { ⌜ (base + 31 < 65536) × (at + length (elements 32 removals) ≤ length (now list)) ⌝ }
+    ensures { λ r. ⌜ (r ≡ at + length (elements 32 removals)) × (now (list .exit) ≡ sets (now (list .entry)) at (map (λ p. base + p) (elements 32 removals))) ⌝ }
+{
+    let mut k = at;
+    let mut left = removals;
+    while left != 0 {
+        let p = sets::lowest(left);
+        list[k] = (base + p) as u16;
+        k += 1;
+        left = sets::without(left, p);
+    }
+    k
+}
+
+// Writes the moves of one stone to the points of a set, and answers the next place.
+fn list_stone(
+    rings: usize,
+    mills: &[u32; 48],
+    position: board::Position,
+    from: usize,
+    tos: u32,
+    list: &mut [u16],
+    at: usize,
+) -> usize
+    requires { ⌜ MillMasks rings (now mills) ⌝ }
+    requires { ⌜ Placed rings position × Vacant rings position from tos ⌝ }
+    requires { ⌜ at + length (stoneMoves (λ n b. removable n b) rings (boardOf (8 * rings) position) from (elements 32 tos)) ≤ length (now list) ⌝ }
+    ensures place { λ r. ⌜ r ≡ at + length (stoneMoves (λ n b. removable n b) rings (boardOf (8 * rings) position) from (elements 32 tos)) ⌝ }
+    ensures list { λ _. ⌜ now (list .exit) ≡ sets (now (list .entry)) at (stoneMoves (λ n b. removable n b) rings (boardOf (8 * rings) position) from (elements 32 tos)) ⌝ }
+{
+    let mut k = at;
+    let mut left = tos;
+    while left != 0 {
+        let to = sets::lowest(left);
+        let removals = crate::plies::removals(rings, mills, position, from, to);
+        k = list_removals(1024 * from + 32 * to, removals, list, k);
+        left = sets::without(left, to);
+    }
+    k
+}
+
+// Writes the moves of a position at the start of a list that has room for them.
+pub fn list_moves(
+    rings: usize,
+    near: &[u32; 24],
+    mills: &[u32; 48],
+    position: board::Position,
+    list: &mut [u16],
+)
+    requires { ⌜ NeighbourMasks rings (now near) ⌝ }
+    requires { ⌜ MillMasks rings (now mills) ⌝ }
+    requires { ⌜ Placed rings position ⌝ }
+    requires { ⌜ length (moves (λ n b. removable n b) rings (boardOf (8 * rings) position)) ≤ length (now list) ⌝ }
+    ensures { λ _. ⌜ now (list .exit) ≡ sets (now (list .entry)) 0 (moves (λ n b. removable n b) rings (boardOf (8 * rings) position)) ⌝ }
+{
+    let mut k = 0;
+    let mut left = position.mover;
+    while left != 0 {
+        let from = sets::lowest(left);
+        let tos = crate::plies::targets(rings, near, position, from);
+        k = list_stone(rings, mills, position, from, tos, list, k);
+        left = sets::without(left, from);
+    }
+}

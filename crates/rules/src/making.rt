@@ -1,0 +1,53 @@
+// A move made: whether a number is a listed move, and the position after it.
+ghost use mathlib.Core.Path.{_≡_};
+ghost use mathlib.Core.Bool.{true};
+ghost use Prim.Native.Nat.{_*_};
+ghost use Rattle.lists.specs.Lists.{member};
+ghost use Rattle.board.specs.Board.{positionOf, boardOf};
+ghost use Rattle.rules.specs.Ply.{removable, moves, afterPly};
+ghost use Rattle.rules.specs.Masks.{NeighbourMasks, MillMasks};
+ghost use Rattle.rules.specs.Positions.{Placed};
+
+// Whether a number is one of a position's moves: its stone, its target and its removal are each tested.
+pub fn is_move(
+    rings: usize,
+    near: &[u32; 24],
+    mills: &[u32; 48],
+    position: board::Position,
+    number: usize,
+) -> bool
+    requires { ⌜ NeighbourMasks rings (now near) ⌝ }
+    requires { ⌜ MillMasks rings (now mills) ⌝ }
+    requires { ⌜ Placed rings position ⌝ }
+    ensures { λ r. ⌜ r ≡ member number (moves (λ n b. removable n b) rings (boardOf (8 * rings) position)) ⌝ }
+{
+    let from = number / 1024;
+    let to = number / 32 % 32;
+    if 24 <= from {
+        return false;
+    }
+    let mover = position.mover;
+    if sets::has(mover, from) {
+        if sets::has(crate::plies::targets(rings, near, position, from), to) {
+            return sets::has(
+                crate::plies::removals(rings, mills, position, from, to),
+                number % 32,
+            );
+        }
+    }
+    false
+}
+
+// The position after a listed move: the stone slides, a stone may be removed, and the sides change names.
+pub fn after_ply(rings: usize, position: board::Position, number: usize) -> board::Position
+    requires { ⌜ Placed rings position ⌝ }
+    requires { ⌜ member number (moves (λ n b. removable n b) rings (boardOf (8 * rings) position)) ≡ true ⌝ }
+    ensures { λ r. ⌜ r ≡ positionOf (afterPly (boardOf (8 * rings) position) number) ⌝ }
+{
+    let mover = position.mover;
+    let opponent = position.opponent;
+    board::Position {
+        mover: sets::without(opponent, number % 32),
+        opponent: sets::with(sets::without(mover, number / 1024), number / 32 % 32),
+    }
+}
