@@ -1,10 +1,11 @@
 -- Writing by bytes: what one byte more adds to a target, and the rings before the points. Assumes nothing.
 use mathlib.Core.Path.{_≡_, sym, ap, ap₂, _∙_}
 use mathlib.Core.List.{List, [], _∷_}
-use Prim.Native.Nat.{ℕ, suc, _+_, _*_, _≤_}
+use Prim.Native.Nat.{ℕ, _+_, _*_, _≤_}
 use native.Mathlib.Omega.{arith}
 use lib.ListN.{length, getD, drop}
 use lib.Seq.{sets}
+use Rattle.lists.proofs.Writing.{sets-append}
 use Rattle.frames.specs.Frame.{fourPoints, packed, spelled, frameOf}
 use Rattle.frames.proofs.Characters.{drop-two}
 
@@ -23,9 +24,7 @@ packed-four b i h =
 -- a byte, and the bytes after it
 stored-byte : (t bs : List ℕ) (at b : ℕ) → sets (sets t at (spelled (b ∷ []))) (at + 2) (spelled bs) ≡ sets t at (spelled (b ∷ bs))
 unfolding spelled
-stored-byte t bs at b =
-    let e : at + 2 ≡ suc (suc at) = omega arith in
-    ap (λ (i : ℕ). sets (sets t at (spelled (b ∷ []))) i (spelled bs)) e
+stored-byte t bs at b = sym (sets-append t at (spelled (b ∷ [])) (spelled bs))
 
 -- byte k of the points is written
 pub stored-step : (t b : List ℕ) (k x : ℕ) → 4 * k + 4 ≤ length b → x ≡ getD (packed (drop (4 * k) b)) 0 0
