@@ -1,7 +1,7 @@
+pub mod Boards
 pub mod Bound
-pub mod Listed
 pub mod Leads
+pub mod Listed
 pub mod Mills
 pub mod OnSets
 pub mod Rises
-pub mod Worked

@@ -1,4 +1,5 @@
--- Worked boards, computed by the definitions: their moves, each list as document 01's rules give it by hand. Assumes nothing.
+-- Worked boards, computed by the definitions: their moves, each list as document 01's rules give it by hand, and boards after a ply. Assumes
+-- nothing.
 use mathlib.Core.Path.{_≡_, refl}
 use mathlib.Core.Bool.{Bool, true, false}
 use mathlib.Core.List.{List, [], _∷_, reverse}
@@ -6,7 +7,7 @@ use Prim.Native.Nat.{ℕ}
 use lib.Dec.{eqb}
 use Rattle.lists.specs.Lists.{all}
 use Rattle.board.specs.Geometry.{points, follows, inward, adjoin, ringMills, crossMills, mills}
-use Rattle.rules.specs.Ply.{holding, inMill, targets, slide, unshielded, removable, removals, moves}
+use Rattle.rules.specs.Ply.{holding, inMill, targets, slide, unshielded, removable, removals, moves, remove, exchange, afterPly}
 
 -- a board read from its highest point down, and its moves
 pub record Worked : Type 0 where
@@ -49,3 +50,27 @@ boards =
 pub worked-hold : all (λ w. holdsAt w) boards ≡ true
 unfolding holdsAt moves holding inMill targets slide unshielded removable removals points follows inward adjoin ringMills crossMills mills
 worked-hold = refl
+
+-- a board, one of its moves, and the board after it
+pub record Ply : Type 0 where
+  pub before : List ℕ
+  pub move : ℕ
+  pub next : List ℕ
+
+abbrev ply : List ℕ → ℕ → List ℕ → Ply
+ply b n c = record { before = b; move = n; next = c }
+
+pub leadsTo : Ply → Bool
+leadsTo p = same (afterPly (reverse (p .before)) (p .move)) (reverse (p .next))
+
+abbrev pub plies : List Ply
+plies =
+    -- a stone is removed: the next mover has two
+    ply (0 ∷ 2 ∷ 1 ∷ 2 ∷ 2 ∷ 0 ∷ 1 ∷ 1 ∷ []) 5187 (0 ∷ 1 ∷ 0 ∷ 1 ∷ 0 ∷ 2 ∷ 2 ∷ 2 ∷ [])
+    -- none is
+    ∷ ply (0 ∷ 2 ∷ 1 ∷ 2 ∷ 2 ∷ 0 ∷ 1 ∷ 1 ∷ []) 95 (0 ∷ 1 ∷ 2 ∷ 1 ∷ 1 ∷ 2 ∷ 2 ∷ 0 ∷ [])
+    ∷ []
+
+pub plies-lead : all (λ p. leadsTo p) plies ≡ true
+unfolding leadsTo afterPly slide remove exchange
+plies-lead = refl
