@@ -12,7 +12,7 @@ use borrow.Author.Tests.{ltb-true, leb-true, eqb-false, not-true}
 use Rattle.lists.specs.Lists.{range, keep, all, each}
 use Rattle.board.specs.Geometry.{points, follows, inward, adjoin, neighbours, ringMills, crossMills, mills}
 use Rattle.board.specs.Tables.{millPoint}
-use Rattle.lists.proofs.Table.{passed}
+use Rattle.lists.proofs.Table.{passed, every-at}
 use Rattle.lists.proofs.Keep.{keep-below}
 use Rattle.lists.proofs.Members.{keep-member, range-member, getD-member}
 
@@ -80,7 +80,7 @@ fewAt p = leb (length (neighbours 3 p)) 4
 
 pub neighbours-few : (p : ℕ) → p < 24 → length (neighbours 3 p) ≤ 4
 unfolding fewAt neighbours points adjoin follows inward
-neighbours-few p h = leb-true _ _ (passed fewAt 24 0 p refl (omega arith) (omega arith))
+neighbours-few p h = leb-true _ _ (every-at 24 fewAt refl p h)
 
 pub neighbour-low : (p j : ℕ) → j < length (neighbours 3 p) → getD (neighbours 3 p) j 0 < 24
 unfolding neighbours points

@@ -1,7 +1,6 @@
 pub mod Keep
 pub mod Lengths
 pub mod Members
-pub mod Passes
 pub mod Rises
 pub mod Table
 pub mod Tests

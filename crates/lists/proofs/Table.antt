@@ -45,6 +45,27 @@ passed f (suc n) a k t l h = go (f a) refl t (λ u. passed f n (suc a) k u)
         ⊎-elim (λ (q : a ≡ k). subst (λ (x : ℕ). f x ≡ true) q e) (λ (q : a < k). rest u q (omega arith)) (eq-or-lt-of-le l)
     go false e u rest = absurd (false≢true u)
 
+-- a test at each of n numbers, at each pair of m and n, and at each triple of l, m and n
+abbrev pub every : ℕ → (ℕ → Bool) → Bool
+every n f = all f (range 0 n)
+
+pub every-at : (n : ℕ) (f : ℕ → Bool) → every n f ≡ true → (i : ℕ) → i < n → f i ≡ true
+every-at n f t i h = passed f n 0 i t (omega arith) (omega arith)
+
+module _ (m n : ℕ) (f : ℕ → ℕ → Bool) where
+  abbrev pub everyTwo : Bool
+  everyTwo = every m (λ i. every n (f i))
+
+  pub every-two : everyTwo ≡ true → (i j : ℕ) → i < m → j < n → f i j ≡ true
+  every-two t i j a b = every-at n (f i) (every-at m (λ i. every n (f i)) t i a) j b
+
+module _ (l m n : ℕ) (f : ℕ → ℕ → ℕ → Bool) where
+  abbrev pub everyThree : Bool
+  everyThree = every l (λ i. everyTwo m n (f i))
+
+  pub every-three : everyThree ≡ true → (i j k : ℕ) → i < l → j < m → k < n → f i j k ≡ true
+  every-three t i j k a b c = every-two m n (f i) (every-at l (λ i. everyTwo m n (f i)) t i a) j k b c
+
 -- one entry more is written: a table that holds the values of f below i holds them below i + 1
 pub stored-more : (f : ℕ → ℕ) (t : List ℕ) (i v : ℕ) → i < length t → v ≡ f i
     → ((k : ℕ) → k < i → getD t k 0 ≡ f k) → (k : ℕ) → k < i + 1 → getD (set t i v) k 0 ≡ f k

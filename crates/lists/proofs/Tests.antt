@@ -26,6 +26,10 @@ pub and-right : (a b : Bool) → (a && b) ≡ true → b ≡ true
 and-right true b e = e
 and-right false b e = absurd (false≢true e)
 
+pub and-both : (a b : Bool) → a ≡ true → b ≡ true → (a && b) ≡ true
+and-both true b p q = q
+and-both false b p q = p
+
 pub or-left : (a b : Bool) → (a || b) ≡ false → a ≡ false
 or-left false b e = refl
 or-left true b e = e
@@ -94,3 +98,27 @@ module _ {A : Type 0} where
     where
       go : f x ≡ g x → keep f xs ≡ keep g xs → keep f (x ∷ xs) ≡ keep g (x ∷ xs)
       go p q = ap₂ (λ (b : Bool) (r : List A). elim b as (λ c. List A) [ true ↦ x ∷ r | false ↦ r ]) p q
+
+-- some member passes, or all do
+module _ {A : Type 0} (f : A → Bool) where
+  pub any-member : (l : List A) → any f l ≡ true → (x : A) × List·Memᴰ x l × (f x ≡ true)
+  any-member [] e = absurd (false≢true e)
+  any-member (y ∷ ys) e = go (f y) refl e (any-member ys)
+    where
+      go : (b : Bool) → f y ≡ b → any f (y ∷ ys) ≡ true → (any f ys ≡ true → (x : A) × List·Memᴰ x ys × (f x ≡ true))
+          → (x : A) × List·Memᴰ x (y ∷ ys) × (f x ≡ true)
+      go true q e r = (y, List·Memᴰ·head refl, q)
+      go false q e r = let s = r (rw (q, any) at e) in (s .0, List·Memᴰ·tail (s .1), s .2)
+
+  pub member-any : (l : List A) {x : A} → List·Memᴰ x l → f x ≡ true → any f l ≡ true
+  member-any [] m e = absurd (List·Memᴰ·not-nil m)
+  member-any (y ∷ ys) {x} m e = go (f y) refl (List·Memᴰ·cases-cons m) (λ k. member-any ys k e)
+    where
+      go : (b : Bool) → f y ≡ b → (x ≡ y) ⊎ List·Memᴰ x ys → (List·Memᴰ x ys → any f ys ≡ true) → any f (y ∷ ys) ≡ true
+      go true q c r = rw (q, any)
+      go false q (inl p) r = absurd (false≢true (sym q ∙ ap f (sym p) ∙ e))
+      go false q (inr k) r = rw (q, any) (r k)
+
+  pub member-all : (l : List A) → ((x : A) → List·Memᴰ x l → f x ≡ true) → all f l ≡ true
+  member-all [] h = refl
+  member-all (y ∷ ys) h = rw (h y (List·Memᴰ·head refl), all) (member-all ys (λ x m. h x (List·Memᴰ·tail m)))

@@ -8,8 +8,7 @@ use native.Mathlib.Omega.{arith}
 use lib.Dec.{eqb, leb}
 use lib.ListN.{length, getD}
 use borrow.Author.Tests.{eqb-true, le-leb, lt-leb}
-use Rattle.lists.specs.Lists.{range, all}
-use Rattle.lists.proofs.Table.{passed}
+use Rattle.lists.proofs.Table.{every, every-at}
 use Rattle.sets.specs.Sets.{with, withAll, setFrom}
 use Rattle.board.specs.Geometry.{ringMills, crossMills, mills}
 use Rattle.board.specs.Tables.{millPoint}
@@ -35,8 +34,8 @@ module _ (p j : ℕ) (hp : p < 24) (hj : j < 2) where
   unfolding numberAt millNumbers mills ringMills crossMills
   number-is = go j hj
     where
-      at : (j : ℕ) → all (numberAt j) (range 0 24) ≡ true → throughNumber p j ≡ getD (millNumbers p) j 0
-      at j t = eqb-true _ _ (passed (numberAt j) 24 0 p t (omega arith) (omega arith))
+      at : (j : ℕ) → every 24 (numberAt j) ≡ true → throughNumber p j ≡ getD (millNumbers p) j 0
+      at j t = eqb-true _ _ (every-at 24 (numberAt j) t p hp)
 
       go : (j : ℕ) → j < 2 → throughNumber p j ≡ getD (millNumbers p) j 0
       go zero h = at 0 refl
@@ -47,8 +46,8 @@ module _ (p j : ℕ) (hp : p < 24) (hj : j < 2) where
   unfolding maskAt millNumbers millsThrough millPoint mills ringMills crossMills setFrom withAll
   mask-is = λ rings l h. go rings j l h hj
     where
-      at : (rings j : ℕ) → all (maskAt rings j) (range 0 24) ≡ true → maskOf rings (getD (millNumbers p) j 0) ≡ setFrom (getD (millsThrough rings p) j [])
-      at rings j t = eqb-true _ _ (passed (maskAt rings j) 24 0 p t (omega arith) (omega arith))
+      at : (rings j : ℕ) → every 24 (maskAt rings j) ≡ true → maskOf rings (getD (millNumbers p) j 0) ≡ setFrom (getD (millsThrough rings p) j [])
+      at rings j t = eqb-true _ _ (every-at 24 (maskAt rings j) t p hp)
 
       go : (rings j : ℕ) → 1 ≤ rings → rings ≤ 3 → j < 2 → maskOf rings (getD (millNumbers p) j 0) ≡ setFrom (getD (millsThrough rings p) j [])
       go zero j l h k = absurd (omega arith)

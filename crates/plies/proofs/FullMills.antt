@@ -10,8 +10,8 @@ use lib.Count.{ones}
 use lib.Dec.{eqb, leb}
 use lib.ListN.{length, getD}
 use borrow.Author.Tests.{leb-true, eqb-false, not-true}
-use Rattle.lists.specs.Lists.{range, all, any, member}
-use Rattle.lists.proofs.Table.{passed}
+use Rattle.lists.specs.Lists.{all, any, member}
+use Rattle.lists.proofs.Table.{every, every-at}
 use Rattle.lists.proofs.Members.{keep-member}
 use Rattle.lists.proofs.Tests.{all-member, any-both, any-same, and-left, and-right}
 use Rattle.sets.specs.Sets.{has, members, with, withAll, setFrom}
@@ -79,8 +79,8 @@ two-mills : (rings p : ℕ) → rings ≤ 3 → p < 24 → length (millsThrough 
 unfolding twoAt millsThrough mills ringMills crossMills
 two-mills rings p h l = go rings h
   where
-    at : (rings : ℕ) → all (twoAt rings) (range 0 24) ≡ true → length (millsThrough rings p) ≤ 2
-    at rings t = leb-true _ _ (passed (twoAt rings) 24 0 p t (omega arith) (omega arith))
+    at : (rings : ℕ) → every 24 (twoAt rings) ≡ true → length (millsThrough rings p) ≤ 2
+    at rings t = leb-true _ _ (every-at 24 (twoAt rings) t p l)
 
     go : (rings : ℕ) → rings ≤ 3 → length (millsThrough rings p) ≤ 2
     go zero h = at 0 refl

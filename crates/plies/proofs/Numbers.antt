@@ -107,7 +107,7 @@ module _ (rings : ℕ) (position : Position) (placed : Placed rings position) (n
     slid-opponent = slide-opponent board (fromOf n) (toOf n) lf lt (move .own) (move .vacant) ∙ opponent-set (8 * rings) position (placed .on)
 
     slid-whole : length slid ≡ length board
-    slid-whole = slide-length board (fromOf n) (toOf n) lf lt (move .own) (move .vacant)
+    slid-whole = slide-length board (fromOf n) (toOf n)
 
     removed : Removed slid (removedOf n)
     removed = removed-of rule removable-takes rings (placed .small) board values whole (fromOf n) (toOf n) (removedOf n) move

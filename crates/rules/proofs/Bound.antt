@@ -12,7 +12,7 @@ use borrow.Author.Tests.{eqb-true, eqb-false, ne-eqb, leb-true}
 use Rattle.lists.specs.Lists.{keep}
 use Rattle.lists.proofs.Keep.{keep-keep}
 use Rattle.lists.proofs.Lengths.{keep-le, orElse-le, each-le}
-use Rattle.lists.proofs.Table.{passed}
+use Rattle.lists.proofs.Table.{every-at}
 use Rattle.lists.proofs.Tests.{keep-same}
 use Rattle.sets.proofs.Elements.{length-elements}
 use Rattle.board.specs.Geometry.{points, adjoin, neighbours}
@@ -53,7 +53,7 @@ module _ (rings : ℕ) (small : rings ≤ 3) where
         let hf : from < length b = omega (arith, whole) in
         let ht : to < length b = omega (arith, whole, v .0) in
         let n = slide-counts b from to hf ht own (v .1) in
-        let l = slide-length b from to hf ht own (v .1) in
+        let l = slide-length b from to in
         omega (
           arith,
           n .1,
@@ -102,7 +102,7 @@ module _ (rings : ℕ) (small : rings ≤ 3) where
 
         product : (m z o : ℕ) → m ≡ 3 → z + m + o ≤ 24 → o ≤ 9 → m * (z * o) ≤ 324
         product m z o e h l =
-            let a : (21 - o) * o ≤ 108 = leb-true _ _ (passed (λ o. leb ((21 - o) * o) 108) 10 0 o refl (omega arith) (omega arith)) in
+            let a : (21 - o) * o ≤ 108 = leb-true _ _ (every-at 10 (λ o. leb ((21 - o) * o) 108) refl o (omega arith)) in
             let c : z * o ≤ (21 - o) * o = mul-le-mul-right o (omega (arith, e, h)) in
             rw e (omega (arith, a, c))
 

@@ -53,12 +53,13 @@ pub record Parts (n from to removed : ℕ) : Type 0 where
 pub parts-of : (n from to removed : ℕ) → to < 32 → removed < 32 → n ≡ moveNumber from to removed → Parts n from to removed
 parts-of n from to removed h l e = record { from-is = omega arith; to-is = omega arith; removed-is = omega arith }
 
--- a slide keeps the points and both counts
-module _ (b : List ℕ) (from to : ℕ) (hf : from < length b) (ht : to < length b) (own : getD b from 0 ≡ 1) (vacant : getD b to 0 ≡ 0) where
-  pub slide-length : length (slide b from to) ≡ length b
-  unfolding slide
-  slide-length = length-set (set b from 0) to 1 ∙ length-set b from 0
+-- a slide keeps the points
+pub slide-length : (b : List ℕ) (from to : ℕ) → length (slide b from to) ≡ length b
+unfolding slide
+slide-length b from to = length-set (set b from 0) to 1 ∙ length-set b from 0
 
+-- and both counts
+module _ (b : List ℕ) (from to : ℕ) (hf : from < length b) (ht : to < length b) (own : getD b from 0 ≡ 1) (vacant : getD b to 0 ≡ 0) where
   pub slide-counts : (count 1 (slide b from to) ≡ count 1 b) × (count 2 (slide b from to) ≡ count 2 b)
   unfolding slide
   slide-counts =
@@ -119,14 +120,14 @@ removed-before b from to r hf ht own vacant d g = go g
 
     go : Removed (slide b from to) r → Before b (remove (slide b from to) r) r
     go (inl e) = rw (eq-eqb r noRemoval e, remove)
-        record { values = dc; points = slide-length b from to hf ht own vacant; mover = n .0; opponent = inl (e, n .1) }
+        record { values = dc; points = slide-length b from to; mover = n .0; opponent = inl (e, n .1) }
     go (inr h) =
         let a₁ = rw (h .2) at (count-set 1 (slide b from to) r 0 (h .0)) in
         let a₂ = rw (h .2) at (count-set 2 (slide b from to) r 0 (h .0)) in
         rw (ne-eqb r noRemoval (λ q. omega (arith, h .1)), remove)
         record {
           values = values-set (slide b from to) r 0 (omega arith) dc;
-          points = length-set (slide b from to) r 0 ∙ slide-length b from to hf ht own vacant;
+          points = length-set (slide b from to) r 0 ∙ slide-length b from to;
           mover = omega (arith, n .0);
           opponent = inr (h .1, omega (arith, n .1));
         }
@@ -140,7 +141,7 @@ module _ (rule : ℕ → List ℕ → List ℕ) (takes : TakesOpponent rule) (ri
       go (inl e) = inl e
       go (inr i) =
           let w = takes rings (slide b from to) r i in
-          let l = slide-length b from to (omega (arith, m .from-low)) (omega (arith, m .to-low)) (m .own) (m .vacant) in
+          let l = slide-length b from to in
           inr (omega (arith, w .0), omega (arith, w .0), w .1)
 
   -- a move number gives back the move's parts

@@ -148,7 +148,7 @@ module _ (rings : ℕ) (small : rings ≤ 3) (b : List ℕ) (whole : length b �
   lt = subst (λ (n : ℕ). to < n) (sym whole) ht
 
   pub slide-whole : length (slide b from to) ≡ 8 * rings
-  slide-whole = slide-length b from to lf lt own vacant ∙ whole
+  slide-whole = slide-length b from to ∙ whole
 
   pub removable-slide : removable rings (slide b from to) ≡ removable rings b
   removable-slide =

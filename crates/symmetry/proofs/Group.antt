@@ -6,8 +6,7 @@ use Prim.Native.Nat.{ℕ, zero, suc, _+_, _-_, _*_, _/_, _%_, _≤_, _<_}
 use native.Mathlib.Omega.{arith}
 use lib.Dec.{eqb, ltb}
 use borrow.Author.Tests.{eqb-true, ltb-true, lt-ltb, le-ltb}
-use Rattle.lists.specs.Lists.{range, all}
-use Rattle.lists.proofs.Table.{passed}
+use Rattle.lists.proofs.Table.{every, every-at, everyTwo, every-two, everyThree, every-three}
 use Rattle.symmetry.specs.Symmetries.{symmetries, turn, mirrors, placeFrom, ringFrom, source}
 
 -- the symmetry whose source is h's source of g's: the mirror h takes g's turn off its own
@@ -19,27 +18,6 @@ compose g h =
 -- a mirror undoes itself, and a turn by k is undone by a turn by 4 − k
 unfoldable pub inverse : ℕ → ℕ
 inverse g = elim (mirrors g) [ true ↦ g | false ↦ 8 * (g / 8) + (4 - turn g) % 4 ]
-
--- a test at each of n numbers, at each pair of m and n, and at each triple of l, m and n
-abbrev pub every : ℕ → (ℕ → Bool) → Bool
-every n f = all f (range 0 n)
-
-pub every-at : (n : ℕ) (f : ℕ → Bool) → every n f ≡ true → (i : ℕ) → i < n → f i ≡ true
-every-at n f t i h = passed f n 0 i t (omega arith) (omega arith)
-
-module _ (m n : ℕ) (f : ℕ → ℕ → Bool) where
-  abbrev pub everyTwo : Bool
-  everyTwo = every m (λ i. every n (f i))
-
-  pub every-two : everyTwo ≡ true → (i j : ℕ) → i < m → j < n → f i j ≡ true
-  every-two t i j a b = every-at n (f i) (every-at m (λ i. every n (f i)) t i a) j b
-
-module _ (l m n : ℕ) (f : ℕ → ℕ → ℕ → Bool) where
-  abbrev pub everyThree : Bool
-  everyThree = every l (λ i. everyTwo m n (f i))
-
-  pub every-three : everyThree ≡ true → (i j k : ℕ) → i < l → j < m → k < n → f i j k ≡ true
-  every-three t i j k a b c = every-two m n (f i) (every-at l (λ i. everyTwo m n (f i)) t i a) j k b c
 
 -- the indices
 compose-within : ℕ → ℕ → Bool

@@ -5,16 +5,16 @@ use mathlib.Core.Bool.{Bool, true, false, _&&_, false≢true}
 use mathlib.Core.List.{List, List·Memᴰ}
 use Prim.Native.Nat.{ℕ, zero, suc, _*_, _≤_, _<_}
 use native.Mathlib.Omega.{arith}
-use lib.Dec.{eqb, ltb}
+use lib.Dec.{eqb}
 use lib.ListN.{getD, length}
-use borrow.Author.Tests.{ltb-true}
 use Rattle.lists.specs.Lists.{all, any, member}
-use Rattle.lists.proofs.Passes.{and-both, any-member, member-any, member-all}
-use Rattle.lists.proofs.Tests.{same-test, and-left, and-right, member-is, is-member, all-member}
+use Rattle.lists.proofs.Table.{every, every-at, everyThree, every-three}
+use Rattle.lists.proofs.Tests.{same-test, and-left, and-right, and-both, member-is, is-member, all-member, any-member, member-any, member-all}
 use Rattle.board.specs.Geometry.{follows, inward, adjoin, ringMills, crossMills, mills}
 use Rattle.rules.specs.Ply.{holds, inMill}
+use Rattle.rules.proofs.Mills.{mill-low}
 use Rattle.symmetry.specs.Symmetries.{symmetries, placeFrom, ringFrom, source, image}
-use Rattle.symmetry.proofs.Group.{inverse, every, every-at, everyThree, every-three, inverse-low, source-undo, source-redo}
+use Rattle.symmetry.proofs.Group.{inverse, inverse-low, source-undo, source-redo}
 use Rattle.symmetry.proofs.Images.{image-length, image-at}
 use Rattle.symmetry.proofs.Compose.{image-back}
 
@@ -56,19 +56,12 @@ comes-to rings g l m = all (λ x. member (source rings g x) m) l && all (λ y. m
 mills-kept : ℕ → ℕ → Bool
 mills-kept rings g = all (λ l. any (λ m. comes-to rings g l m) (mills rings)) (mills rings)
 
-mills-within : ℕ → Bool
-mills-within rings = all (λ l. all (λ x. ltb x (8 * rings)) l) (mills rings)
-
-record MillTests (rings : ℕ) : Type 0 where
-  pub kept : every symmetries (mills-kept rings) ≡ true
-  pub within : mills-within rings ≡ true
-
-mill-tests : (rings : ℕ) → rings ≤ 3 → MillTests rings
-unfolding mills-kept mills-within comes-to mills ringMills crossMills source ringFrom placeFrom inverse
-mill-tests zero h = record { kept = refl; within = refl }
-mill-tests (suc zero) h = record { kept = refl; within = refl }
-mill-tests (suc (suc zero)) h = record { kept = refl; within = refl }
-mill-tests (suc (suc (suc zero))) h = record { kept = refl; within = refl }
+mill-tests : (rings : ℕ) → rings ≤ 3 → every symmetries (mills-kept rings) ≡ true
+unfolding mills-kept comes-to mills ringMills crossMills source ringFrom placeFrom inverse
+mill-tests zero h = refl
+mill-tests (suc zero) h = refl
+mill-tests (suc (suc zero)) h = refl
+mill-tests (suc (suc (suc zero))) h = refl
 mill-tests (suc (suc (suc (suc r)))) h = absurd (omega arith)
 
 -- the mill that a mill's sources are
@@ -82,17 +75,11 @@ module _ (rings : ℕ) (few : rings ≤ 3) where
   pub mill-kept : (g : ℕ) → g < symmetries → (l : List ℕ) → List·Memᴰ l (mills rings) → MillFrom rings g l
   unfolding mills-kept comes-to
   mill-kept g h l i =
-      let s = any-member _ (mills rings) (all-member _ (mills rings) (every-at symmetries (mills-kept rings) (mill-tests rings few .kept) g h) l i) in
+      let s = any-member _ (mills rings) (all-member _ (mills rings) (every-at symmetries (mills-kept rings) (mill-tests rings few) g h) l i) in
       let m = s .0 in
       let there = all-member (λ x. member (source rings g x) m) l (and-left _ _ (s .2)) in
       let back = all-member (λ y. member (source rings (inverse g) y) l) m (and-right (all (λ x. member (source rings g x) m) l) _ (s .2)) in
       record { mill = m; is-mill = s .1; there = λ x j. member-is _ m (there x j); back = λ y j. member-is _ l (back y j) }
-
-  pub mill-low : (l : List ℕ) → List·Memᴰ l (mills rings) → (x : ℕ) → List·Memᴰ x l → x < 8 * rings
-  unfolding mills-within
-  mill-low l i x j =
-      let within = all-member (λ l. all (λ x. ltb x (8 * rings)) l) (mills rings) (mill-tests rings few .within) l i in
-      ltb-true x (8 * rings) (all-member (λ y. ltb y (8 * rings)) l within x j)
 
   -- a full mill of the image is one of the board,
   mill-forth : (g : ℕ) → g < symmetries → (b : List ℕ) → length b ≡ 8 * rings → (v p : ℕ) → inMill rings (holds (image rings g b) v) p ≡ true
@@ -109,8 +96,8 @@ module _ (rings : ℕ) (few : rings ≤ 3) where
       (and-both (member (source rings g p) (k .mill)) _ (is-member (source rings g p) (k .mill) (k .there p own))
       (member-all (holds b v) (k .mill) (λ y m.
       let q = k .back y m in
-      let low = mill-low l (e .1) (source rings (inverse g) y) q in
-      let ly = mill-low (k .mill) (k .is-mill) y m in
+      let low = mill-low rings few l (e .1) (source rings (inverse g) y) q in
+      let ly = mill-low rings few (k .mill) (k .is-mill) y m in
       ap (λ (x : ℕ). eqb x v) (ap (λ (i : ℕ). getD b i 0) (sym (source-redo rings few g y h ly))
       ∙ sym (image-at rings g b (source rings (inverse g) y) (subst (λ (n : ℕ). source rings (inverse g) y < n) (sym points) low)))
       ∙ full (source rings (inverse g) y) q)))

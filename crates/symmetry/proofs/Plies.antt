@@ -14,13 +14,13 @@ use Rattle.lists.proofs.Members.{keep-member, member-keep, map-member, member-m
 use Rattle.rules.specs.Ply.{holds, holding, inMill, slide, unshielded, removable, noRemoval, removals, moveNumber, fromOf, toOf, removedOf}
 use Rattle.rules.specs.Ply.{moves, remove, exchange, afterPly, successors}
 use Rattle.rules.proofs.Listed.{holding-is, is-holding, Move, Listed, move-of, of-move, removal-cases, TakesOpponent}
-use Rattle.rules.proofs.Leads.{Parts, parts-of}
+use Rattle.rules.proofs.Leads.{Parts, parts-of, slide-length}
 use Rattle.symmetry.specs.Symmetries.{symmetries, source, image}
 use Rattle.symmetry.proofs.Group.{inverse, inverse-low, inverse-inverse, source-none, source-low, source-undo}
 use Rattle.symmetry.proofs.Images.{image-length, image-at}
 use Rattle.symmetry.proofs.Compose.{image-back, image-forth, image-count}
 use Rattle.symmetry.proofs.Kept.{adjoin-kept, mill-image}
-use Rattle.symmetry.proofs.Stores.{slide-points, after-points, PointOrNone, removed-back, image-exchange, slide-image, remove-image}
+use Rattle.symmetry.proofs.Stores.{after-points, PointOrNone, removed-back, image-exchange, slide-image, remove-image}
 
 -- a move number with each of its points taken to its source; no removal stays none
 unfoldable pub sourceMove : ℕ → ℕ → ℕ → ℕ
@@ -99,7 +99,7 @@ module _ (rule : ℕ → List ℕ → List ℕ) (takes : TakesOpponent rule) (co
               ap₂ (λ (x : ℕ) (z : Bool). eqb x 3 || z) (sym (image-count rings few b points g 1 h))
               (adjoin-kept rings few g s t h (v .from-low) (v .to-low)) ∙ v .reach;
           removal =
-              removals-image g h k (slide-points b (source rings g s) (source rings g t) ∙ points) t r (v .to-low)
+              removals-image g h k (slide-length b (source rings g s) (source rings g t) ∙ points) t r (v .to-low)
               (subst (λ (c : List ℕ). List·Memᴰ r (removals rule rings c t)) (slide-image rings few g h b points s t (v .from-low) (v .to-low))
               (v .removal));
         }
@@ -132,7 +132,7 @@ module _ (rule : ℕ → List ℕ → List ℕ) (takes : TakesOpponent rule) (co
                   ∙ ap (λ (x : List ℕ). map (λ v. exchange v) (remove x (l .removed)))
                   (slide-image rings few g h b points (l .from) (l .to) (v .from-low) (v .to-low))
                   ∙ ap (λ (x : List ℕ). map (λ v. exchange v) x)
-                  (remove-image rings few g h (slide b s t) (slide-points b s t ∙ points) (l .removed) c)
+                  (remove-image rings few g h (slide b s t) (slide-length b s t ∙ points) (l .removed) c)
                   ∙ image-exchange rings few g h (remove (slide b s t) r)
                   ∙ ap (λ (x : List ℕ). image rings g x) (sym (after-parts b (sourceMove rings g n) s t r z));
               back-is =

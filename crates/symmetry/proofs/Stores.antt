@@ -11,15 +11,12 @@ use lib.ListN.{getD, set, length, length-set, length-map, List·getD-map}
 use lib.Seq.{getD-set-same, getD-set-other}
 use borrow.Author.Tests.{eqb-true, eqb-false, eq-eqb, ne-eqb}
 use Rattle.rules.specs.Ply.{slide, noRemoval, fromOf, toOf, removedOf, remove, exchange, afterPly}
+use Rattle.rules.proofs.Leads.{slide-length}
 use Rattle.symmetry.specs.Symmetries.{symmetries, source, image}
 use Rattle.symmetry.proofs.Group.{inverse, source-none, source-low, source-undo}
 use Rattle.symmetry.proofs.Images.{image-length, image-at, image-is}
 
 -- a board keeps its points
-pub slide-points : (b : List ℕ) (s t : ℕ) → length (slide b s t) ≡ length b
-unfolding slide
-slide-points b s t = length-set (set b s 0) t 1 ∙ length-set b s 0
-
 pub after-points : (b : List ℕ) (n : ℕ) → length (afterPly b n) ≡ length b
 unfolding afterPly remove
 after-points b n = length-map (remove k (removedOf n)) (λ v. exchange v) ∙ go (eqb (removedOf n) noRemoval) refl
@@ -28,8 +25,8 @@ after-points b n = length-map (remove k (removedOf n)) (λ v. exchange v) ∙ go
     k = slide b (fromOf n) (toOf n)
 
     go : (t : Bool) → eqb (removedOf n) noRemoval ≡ t → length (remove k (removedOf n)) ≡ length b
-    go true e = rw (e, remove) (slide-points b (fromOf n) (toOf n))
-    go false e = rw (e, remove) (length-set k (removedOf n) 0 ∙ slide-points b (fromOf n) (toOf n))
+    go true e = rw (e, remove) (slide-length b (fromOf n) (toOf n))
+    go false e = rw (e, remove) (length-set k (removedOf n) 0 ∙ slide-length b (fromOf n) (toOf n))
 
 -- what a ply removes: nothing, or the stone at a point
 abbrev pub PointOrNone : ℕ → ℕ → Type 0
