@@ -5,7 +5,7 @@ use mathlib.Core.List.{List, [], _∷_, _++_}
 use Prim.Native.Nat.{ℕ, suc, _+_}
 use native.Mathlib.Nat.{add-zero, add-suc, suc-add}
 use native.Mathlib.Omega.{arith}
-use lib.ListN.{length, set, length-append, length-set}
+use lib.ListN.{length, set, length-append}
 use lib.Seq.{sets, length-sets}
 
 pub sets-append : (l : List ℕ) (i : ℕ) (xs ys : List ℕ) → sets l i (xs ++ ys) ≡ sets (sets l i xs) (i + length xs) ys
@@ -24,12 +24,6 @@ pub writing-none : (old : List ℕ) (start : ℕ) (whole : List ℕ) → Writing
 writing-none old start whole = record { same = refl; place = refl; long = refl }
 
 module _ {old : List ℕ} {start : ℕ} {whole l : List ℕ} {k : ℕ} where
-  -- one number more
-  pub writing-one : {x : ℕ} (rest : List ℕ) → Writing old start whole l k (x ∷ rest) → Writing old start whole (set l k x) (k + 1) rest
-  writing-one {x} rest w =
-      let e : k + 1 ≡ suc k = omega arith in
-      record { same = ap (λ (i : ℕ). sets (set l k x) i rest) e ∙ w .same; place = omega (arith, w .place); long = length-set l k x ∙ w .long }
-
   -- a part more
   pub writing-part : (xs rest : List ℕ) → Writing old start whole l k (xs ++ rest) → Writing old start whole (sets l k xs) (k + length xs) rest
   writing-part xs rest w = record {

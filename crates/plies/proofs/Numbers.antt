@@ -21,7 +21,7 @@ use Rattle.board.proofs.OneToOne.{mover-set, opponent-set, mover-at, mover-bit}
 use Rattle.rules.specs.Ply.{targets, slide, removable, noRemoval, removals, fromOf, toOf, removedOf, moves, remove, exchange, afterPly}
 use Rattle.plies.specs.Positions.{Placed}
 use Rattle.rules.proofs.Listed.{Move, move-of, of-move, removable-takes, target-of, of-target, target-vacant}
-use Rattle.rules.proofs.Leads.{Removed, listed-parts, slide-length, removed-of, removed-before}
+use Rattle.rules.proofs.Leads.{Removed, listed-parts, removed-of, removed-before}
 use Rattle.rules.proofs.OnSets.{slide-mover, slide-opponent}
 use Rattle.plies.proofs.OnPositions.{opponent-small}
 
@@ -105,9 +105,6 @@ module _ (rings : ℕ) (position : Position) (placed : Placed rings position) (n
 
     slid-opponent : setOf 2 slid ≡ position .opponent
     slid-opponent = slide-opponent board (fromOf n) (toOf n) lf lt (move .own) (move .vacant) ∙ opponent-set (8 * rings) position (placed .on)
-
-    slid-whole : length slid ≡ length board
-    slid-whole = slide-length board (fromOf n) (toOf n)
 
     removed : Removed slid (removedOf n)
     removed = removed-of rule removable-takes rings (placed .small) board values whole (fromOf n) (toOf n) (removedOf n) move

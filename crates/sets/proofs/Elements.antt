@@ -16,7 +16,6 @@ use Rattle.lists.specs.Lists.{range, keep, member, orElse, Rising}
 use Rattle.lists.proofs.Keep.{keep-yes, keep-no}
 use Rattle.lists.proofs.Members.{keep-member, member-keep, range-member, member-range}
 use Rattle.lists.proofs.Rises.{rising-range, rising-keep, rising-same, member-above}
-use Rattle.lists.proofs.Tests.{is-member, member-is, same-test}
 use Rattle.sets.specs.Sets.{bit, has, with, without, members, elements, lowest, withAll, setFrom}
 use Rattle.sets.proofs.Laws.{bit-zero, bit-suc, bit-cases, bit-le, bit-empty, bit-with-same, bit-with-other, with-lt, bit-without-same, bit-without-other, without-member, same-set}
 
@@ -126,11 +125,6 @@ bit-from l p m = all-new l 0 p m
 pub from-bit : (l : List ℕ) (p : ℕ) → bit (setFrom l) p ≡ 1 → List·Memᴰ p l
 unfolding setFrom
 from-bit l p e = ⊎-elim (λ k. absurd (omega (arith, k, bit-empty p))) (λ k. k) (all-cases l 0 p e)
-
-pub has-from : (l : List ℕ) (p : ℕ) → has (setFrom l) p ≡ member p l
-has-from l p =
-    same-test (has (setFrom l) p) (member p l) (λ e. is-member p l (from-bit l p (eqb-true (bit (setFrom l) p) 1 e)))
-    (λ e. eq-eqb (bit (setFrom l) p) 1 (bit-from l p (member-is p l e)))
 
 -- a list whose set is empty has no members, so the set of a first choice or a second is found from the two sets
 pub from-first : (l r : List ℕ) → (setFrom l ≡ 0 → ⊥) → setFrom (orElse l r) ≡ setFrom l
