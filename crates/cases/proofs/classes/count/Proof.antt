@@ -1,25 +1,25 @@
--- `cases::back` is safe and ends. Assumes nothing.
+-- `cases::classes::count` is safe and ends. Assumes nothing.
 use mathlib.Core.Path.{_≡_}
 use Prim.Native.Nat.{_-_, _≤_}
-use borrow.Author.Needs.{needs}
 use lib.ListN.{length}
-use Rattle.cases.proofs.back.Statement.{statement}
-use Rattle.cases.proofs.back.Tie as tie
+use borrow.Author.Needs.{needs}
+use Rattle.cases.proofs.classes.count.Statement.{statement}
+use Rattle.cases.proofs.classes.count.Tie as tie
 
 abbrev Inv-loop : tie.InvT-loop
-Inv-loop rings mover opponent end target₀ n₀ r₀ target n r = (n ≤ r) × (r ≤ end) × (length target ≡ length target₀)
+Inv-loop rings mover opponent size board₀ n₀ r₀ board n r = (r ≤ size) × (length board ≡ length board₀)
 
 abbrev μ-loop : tie.MeasureT-loop
-μ-loop rings mover opponent end target₀ n₀ r₀ target n r = end - r
+μ-loop rings mover opponent size board₀ n₀ r₀ board n r = size - r
 
 loop-holds : tie.Need-loop-holds Inv-loop μ-loop
 loop-holds c = search needs
 
-comes-back-requires : tie.Need-comes-back-requires Inv-loop μ-loop
-comes-back-requires c κs = search needs
+own-requires : tie.Need-own-requires Inv-loop μ-loop
+own-requires c κs = search needs
 
-add-n : tie.Need-add-n Inv-loop μ-loop
-add-n c = search needs
+wrapping-add-u64-requires : tie.Need-wrapping-add-u64-requires Inv-loop μ-loop
+wrapping-add-u64-requires c κs = search needs
 
 add-r : tie.Need-add-r Inv-loop μ-loop
 add-r c = search needs
@@ -36,15 +36,15 @@ same-length c = search needs
 returns : tie.Need-returns Inv-loop μ-loop
 returns c = search needs
 
-pub back-spec : {M : Type 1} → statement M
-back-spec =
+pub count-spec : {M : Type 1} → statement M
+count-spec =
     tie.close
     (tie.spec
     Inv-loop
     μ-loop
     loop-holds
-    comes-back-requires
-    add-n
+    own-requires
+    wrapping-add-u64-requires
     add-r
     loop-less
     loop-again
