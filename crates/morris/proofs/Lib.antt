@@ -1,6 +1,7 @@
 pub mod FirstRefusal
 pub mod Conditions
 pub mod Positions
+pub mod Play
 pub mod Answering
 pub mod FrameConditions
 pub mod RoundTrip
