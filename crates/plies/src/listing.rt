@@ -6,9 +6,12 @@ ghost use lib.ListN.{length};
 ghost use lib.Seq.{sets};
 ghost use Rattle.sets.specs.Sets.{elements};
 ghost use Rattle.board.specs.Board.{boardOf};
-ghost use Rattle.rules.specs.Ply.{removable, stoneMoves, listedMoves};
+ghost use Rattle.rules.specs.Ply.{listedFrom, listedMoves};
 ghost use Rattle.plies.specs.Masks.{NeighbourMasks, MillMasks};
 ghost use Rattle.plies.specs.Positions.{Placed, Vacant};
+use super::choices;
+use super::making::FROM;
+use super::making::TO;
 
 // How many moves one stone has to the points of a set.
 fn count_stone(
@@ -20,13 +23,13 @@ fn count_stone(
 ) -> usize
     requires { ⌜ MillMasks rings (now mills) ⌝ }
     requires { ⌜ Placed rings position × Vacant rings position from tos ⌝ }
-    ensures { λ r. ⌜ (r ≡ length (stoneMoves (λ n b. removable n b) rings (boardOf (8 * rings) position) from (elements 32 tos))) × (r ≤ 1024) ⌝ }
+    ensures { λ r. ⌜ (r ≡ length (listedFrom rings (boardOf (8 * rings) position) from (elements 32 tos))) × (r ≤ 1024) ⌝ }
 {
     let mut n = 0;
     let mut left = tos;
     while left != 0 {
         let to = sets::lowest(left);
-        n += sets::count(crate::choices::removals(rings, mills, position, from, to)) as usize;
+        n += sets::count(choices::removals(rings, mills, position, from, to)) as usize;
         left = sets::without(left, to);
     }
     n
@@ -48,7 +51,7 @@ pub fn count_moves(
     let mut left = position.mover;
     while left != 0 {
         let from = sets::lowest(left);
-        let tos = crate::choices::targets(rings, near, position, from);
+        let tos = choices::targets(rings, near, position, from);
         n += count_stone(rings, mills, position, from, tos);
         left = sets::without(left, from);
     }
@@ -83,16 +86,16 @@ fn list_stone(
 ) -> usize
     requires { ⌜ MillMasks rings (now mills) ⌝ }
     requires { ⌜ Placed rings position × Vacant rings position from tos ⌝ }
-    requires { ⌜ at + length (stoneMoves (λ n b. removable n b) rings (boardOf (8 * rings) position) from (elements 32 tos)) ≤ length (now list) ⌝ }
-    ensures place { λ r. ⌜ r ≡ at + length (stoneMoves (λ n b. removable n b) rings (boardOf (8 * rings) position) from (elements 32 tos)) ⌝ }
-    ensures list { λ _. ⌜ now (list .exit) ≡ sets (now (list .entry)) at (stoneMoves (λ n b. removable n b) rings (boardOf (8 * rings) position) from (elements 32 tos)) ⌝ }
+    requires { ⌜ at + length (listedFrom rings (boardOf (8 * rings) position) from (elements 32 tos)) ≤ length (now list) ⌝ }
+    ensures place { λ r. ⌜ r ≡ at + length (listedFrom rings (boardOf (8 * rings) position) from (elements 32 tos)) ⌝ }
+    ensures list { λ _. ⌜ now (list .exit) ≡ sets (now (list .entry)) at (listedFrom rings (boardOf (8 * rings) position) from (elements 32 tos)) ⌝ }
 {
     let mut k = at;
     let mut left = tos;
     while left != 0 {
         let to = sets::lowest(left);
-        let removals = crate::choices::removals(rings, mills, position, from, to);
-        k = list_removals(1024 * from + 32 * to, removals, list, k);
+        let removals = choices::removals(rings, mills, position, from, to);
+        k = list_removals(FROM * from + TO * to, removals, list, k);
         left = sets::without(left, to);
     }
     k
@@ -116,7 +119,7 @@ pub fn list_moves(
     let mut left = position.mover;
     while left != 0 {
         let from = sets::lowest(left);
-        let tos = crate::choices::targets(rings, near, position, from);
+        let tos = choices::targets(rings, near, position, from);
         k = list_stone(rings, mills, position, from, tos, list, k);
         left = sets::without(left, from);
     }

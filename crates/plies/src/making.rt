@@ -7,6 +7,12 @@ ghost use Rattle.board.specs.Board.{positionOf, boardOf};
 ghost use Rattle.rules.specs.Ply.{afterPly, listedMoves};
 ghost use Rattle.plies.specs.Masks.{NeighbourMasks, MillMasks};
 ghost use Rattle.plies.specs.Positions.{Placed};
+use super::choices;
+
+// A move number is FROM × from + TO × to + removed, where to and removed are below TO.
+pub const FROM: usize = 1024;
+
+pub const TO: usize = 32;
 
 // Whether a number is one of a position's moves: its stone, its target and its removal are each tested.
 pub fn is_move(
@@ -21,17 +27,17 @@ pub fn is_move(
     requires { ⌜ Placed rings position ⌝ }
     ensures { λ r. ⌜ r ≡ member number (listedMoves rings (boardOf (8 * rings) position)) ⌝ }
 {
-    let from = number / 1024;
-    let to = number / 32 % 32;
+    let from = number / FROM;
+    let to = number / TO % TO;
     if 24 <= from {
         return false;
     }
     let mover = position.mover;
     if sets::has(mover, from) {
-        if sets::has(crate::choices::targets(rings, near, position, from), to) {
+        if sets::has(choices::targets(rings, near, position, from), to) {
             return sets::has(
-                crate::choices::removals(rings, mills, position, from, to),
-                number % 32,
+                choices::removals(rings, mills, position, from, to),
+                number % TO,
             );
         }
     }
@@ -47,7 +53,7 @@ pub fn after_ply(rings: usize, position: board::Position, number: usize) -> boar
     let mover = position.mover;
     let opponent = position.opponent;
     board::Position {
-        mover: sets::without(opponent, number % 32),
-        opponent: sets::with(sets::without(mover, number / 1024), number / 32 % 32),
+        mover: sets::without(opponent, number % TO),
+        opponent: sets::with(sets::without(mover, number / FROM), number / TO % TO),
     }
 }

@@ -71,6 +71,9 @@ unfoldable pub moves : (ℕ → List ℕ → List ℕ) → ℕ → List ℕ → 
 moves rule rings b = each (λ from. stoneMoves rule rings b from (targets rings b from)) (holding rings b 1)
 
 -- by document 01's rule of removal
+abbrev pub listedFrom : ℕ → List ℕ → ℕ → List ℕ → List ℕ
+listedFrom rings b from tos = stoneMoves (λ n c. removable n c) rings b from tos
+
 abbrev pub listedMoves : ℕ → List ℕ → List ℕ
 listedMoves rings b = moves (λ n c. removable n c) rings b
 
