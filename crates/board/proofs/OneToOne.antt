@@ -17,7 +17,8 @@ module _ (points : ℕ) (p : Position) (w : OnBoard points p) where
   -- the set of the board's points that hold v is a side, if its digits say so
   side : (v s : ℕ) → s < 2 ^ points → ((q : ℕ) → q < points → digit (eqb (valueAt p q) v) ≡ bit s q) → setOf v (boardOf points p) ≡ s
   side v s l h =
-      same-set points (setOf v (boardOf points p)) s (subst (λ (n : ℕ). setOf v (boardOf points p) < 2 ^ n) (length-board points p) (set-lt v (boardOf points p))) l
+      same-set points (setOf v (boardOf points p)) s (subst (λ (n : ℕ). setOf v (boardOf points p) < 2 ^ n) (length-board points p)
+      (set-lt v (boardOf points p))) l
       (λ q m. bit-set v (boardOf points p) q (subst (λ (n : ℕ). q < n) (sym (length-board points p)) m)
       ∙ ap (λ (x : ℕ). digit (eqb x v)) (board-at points p q m) ∙ h q m)
 

@@ -58,7 +58,8 @@ module _ (v : ℕ) (b : List ℕ) (p x : ℕ) (h : p < length b) where
 
   pub set-without : eqb x v ≡ false → setOf v (set b p x) ≡ without (setOf v b) p
   set-without e =
-      same-set (length b) (setOf v (set b p x)) (without (setOf v b) p) stored-lt (omega (arith, set-lt v b, without-le (setOf v b) p)) (λ q l. go q l (eqb q p) refl)
+      same-set (length b) (setOf v (set b p x)) (without (setOf v b) p) stored-lt (omega (arith, set-lt v b, without-le (setOf v b) p))
+      (λ q l. go q l (eqb q p) refl)
     where
       go : (q : ℕ) → q < length b → (c : Bool) → eqb q p ≡ c → bit (setOf v (set b p x)) q ≡ bit (without (setOf v b) p) q
       go q l true z =

@@ -21,7 +21,8 @@ keep-keep f g [] = refl
 keep-keep f g (x ∷ l) = go (f x) refl (g x) refl (keep-keep f g l)
   where
     go : (a : Bool) → f x ≡ a → (b : Bool) → g x ≡ b → keep f (keep g l) ≡ keep g (keep f l) → keep f (keep g (x ∷ l)) ≡ keep g (keep f (x ∷ l))
-    go true p true q r = ap (keep f) (keep-yes g x l q) ∙ keep-yes f x (keep g l) p ∙ ap (λ k. x ∷ k) r ∙ sym (ap (keep g) (keep-yes f x l p) ∙ keep-yes g x (keep f l) q)
+    go true p true q r = ap (keep f) (keep-yes g x l q) ∙ keep-yes f x (keep g l) p ∙ ap (λ k. x ∷ k) r
+        ∙ sym (ap (keep g) (keep-yes f x l p) ∙ keep-yes g x (keep f l) q)
     go true p false q r = ap (keep f) (keep-no g x l q) ∙ r ∙ sym (ap (keep g) (keep-yes f x l p) ∙ keep-no g x (keep f l) q)
     go false p true q r = ap (keep f) (keep-yes g x l q) ∙ keep-no f x (keep g l) p ∙ r ∙ ap (keep g) (sym (keep-no f x l p))
     go false p false q r = ap (keep f) (keep-no g x l q) ∙ r ∙ ap (keep g) (sym (keep-no f x l p))
@@ -48,6 +49,7 @@ module _ (f : ℕ → Bool) (n : ℕ) where
       go : (b : Bool) → f a ≡ b → keep (λ q. below q) (keep f (range (suc a) (d + k))) ≡ keep f (range (suc a) d)
           → keep (λ q. below q) (keep f (range a (suc (d + k)))) ≡ keep f (range a (suc d))
       go true b r =
-          ap (keep (λ q. below q)) (keep-yes f a (range (suc a) (d + k)) b) ∙ keep-yes (λ q. below q) a (keep f (range (suc a) (d + k))) (lt-ltb a n (omega arith))
+          ap (keep (λ q. below q)) (keep-yes f a (range (suc a) (d + k)) b)
+          ∙ keep-yes (λ q. below q) a (keep f (range (suc a) (d + k))) (lt-ltb a n (omega arith))
           ∙ ap (λ (l : List ℕ). a ∷ l) r ∙ rw (b, keep)
       go false b r = ap (keep (λ q. below q)) (keep-no f a (range (suc a) (d + k)) b) ∙ r ∙ rw (b, keep)

@@ -80,7 +80,8 @@ write-then-read rings b old e =
     let rest : List ℕ = drop (0 + length f) old in
     let beyond : 0 + length f ≡ frameLength rings = omega (arith, l) in
     let t : writeFrameTarget rings b old ≡ f ++ rest =
-    sym (target-written (refusal (shortPicks rings b (length old) (frameLength rings))) (sets old 0 f) old (sym n)) ∙ sets-eq f old 0 (omega (arith, l, room)) in
+    sym (target-written (refusal (shortPicks rings b (length old) (frameLength rings))) (sets old 0 f) old (sym n))
+    ∙ sets-eq f old 0 (omega (arith, l, room)) in
     record {
       answers = sym (answer-accepted (refusal (shortPicks rings b (length old) (frameLength rings))) (frameLength rings ∷ []) (sym n));
       reads = ap readFrameCall (ap (take (frameLength rings)) t ∙ take-at f rest (frameLength rings) l) ∙ frame-reads rings b a;
@@ -105,11 +106,13 @@ read-then-write f old e room =
     let g : frameOf r b ≡ f = frame-back f (p .0) in
     let l : length f ≡ frameLength r = ap length (sym g) ∙ frame-characters r b a in
     let z : 0 ≡ refusal (shortPicks r b (length old) (frameLength r)) =
-    sym (short-decides r b (length old) (frameLength r) (sym a) ∙ ap (λ (t : Bool). cond t 7 0) (le-ltb (length old) (frameLength r) (omega (arith, l, room)))) in
+    sym (short-decides r b (length old) (frameLength r) (sym a)
+    ∙ ap (λ (t : Bool). cond t 7 0) (le-ltb (length old) (frameLength r) (omega (arith, l, room)))) in
     let t : sets old 0 (frameOf r b) ≡ f ++ drop (0 + length f) old = ap (sets old 0) g ∙ sets-eq f old 0 (omega (arith, room)) in
     record {
       board = position-board r b a;
-      answers = sym (answer-accepted (refusal (shortPicks r b (length old) (frameLength r))) (frameLength r ∷ []) z) ∙ ap (λ (k : ℕ). accepted (k ∷ [])) (sym l);
+      answers = sym (answer-accepted (refusal (shortPicks r b (length old) (frameLength r))) (frameLength r ∷ []) z)
+          ∙ ap (λ (k : ℕ). accepted (k ∷ [])) (sym l);
       writes =
           ap (take (length f)) (sym (target-written (refusal (shortPicks r b (length old) (frameLength r))) (sets old 0 (frameOf r b)) old z) ∙ t)
           ∙ take-at f (drop (0 + length f) old) (length f) refl;

@@ -64,7 +64,8 @@ module _ (rings : ℕ) (b : List ℕ) (e : refusal (boardPicks rings b) ≡ 0) w
     after-accepted three =
         let w = board in
         let c = w .counted in
-        let l = ply-leads (λ n d. removable n d) removable-takes rings (w .rings-high) b (w .values) (w .points) move (member-is move (listedMoves rings b) listed) in
+        let l = ply-leads (λ n d. removable n d) removable-takes rings (w .rings-high) b (w .values) (w .points) move
+        (member-is move (listedMoves rings b) listed) in
         let p = l .points ∙ w .points in
         let counted : Counted (8 * rings) (count 1 (afterPly b move)) (count 2 (afterPly b move)) = record {
           mover-low = three;

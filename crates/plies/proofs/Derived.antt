@@ -17,7 +17,8 @@ use Rattle.plies.specs.Masks.{millNumbers, millsThrough}
 -- which mill goes through a point, as the code finds it
 abbrev throughNumber : ℕ → ℕ → ℕ
 throughNumber p j =
-    cond (eqb (p % 2) 1) (cond (eqb j 0) (4 * (p / 8) + p % 8 / 2) (12 + p % 8 / 2)) (cond (eqb (p % 8 / 2) 0) (4 * (p / 8) + 3 * j) (4 * (p / 8) + p % 8 / 2 - 1 + j))
+    cond (eqb (p % 2) 1) (cond (eqb j 0) (4 * (p / 8) + p % 8 / 2) (12 + p % 8 / 2))
+    (cond (eqb (p % 8 / 2) 0) (4 * (p / 8) + 3 * j) (4 * (p / 8) + p % 8 / 2 - 1 + j))
 
 numberAt : ℕ → ℕ → Bool
 numberAt j p = eqb (throughNumber p j) (getD (millNumbers p) j 0)

@@ -68,7 +68,8 @@ module _ (rings : ℕ) (position : Position) (placed : Placed rings position) (n
   to-listed e = let v = parts (member-is n _ e) in
       bit-from (targets rings board (fromOf n)) (toOf n) (of-target rings board (fromOf n) (toOf n) (v .to-low) (v .vacant) (v .reach))
 
-  pub removed-listed : member n (moves rule rings board) ≡ true → bit (setFrom (removals rule rings (slide board (fromOf n) (toOf n)) (toOf n))) (removedOf n) ≡ 1
+  pub removed-listed : member n (moves rule rings board) ≡ true
+      → bit (setFrom (removals rule rings (slide board (fromOf n) (toOf n)) (toOf n))) (removedOf n) ≡ 1
   removed-listed e = let v = parts (member-is n _ e) in bit-from _ (removedOf n) (v .removal)
 
   pub all-listed : bit (position .mover) (fromOf n) ≡ 1 → bit (setFrom (targets rings board (fromOf n))) (toOf n) ≡ 1
@@ -101,7 +102,8 @@ module _ (rings : ℕ) (position : Position) (placed : Placed rings position) (n
     slid = slide board (fromOf n) (toOf n)
 
     slid-mover : setOf 1 slid ≡ with (without (position .mover) (fromOf n)) (toOf n)
-    slid-mover = slide-mover board (fromOf n) (toOf n) lf lt ∙ ap (λ (s : ℕ). with (without s (fromOf n)) (toOf n)) (mover-set (8 * rings) position (placed .on))
+    slid-mover = slide-mover board (fromOf n) (toOf n) lf lt
+        ∙ ap (λ (s : ℕ). with (without s (fromOf n)) (toOf n)) (mover-set (8 * rings) position (placed .on))
 
     slid-opponent : setOf 2 slid ≡ position .opponent
     slid-opponent = slide-opponent board (fromOf n) (toOf n) lf lt (move .own) (move .vacant) ∙ opponent-set (8 * rings) position (placed .on)
@@ -124,7 +126,11 @@ module _ (rings : ℕ) (position : Position) (placed : Placed rings position) (n
         )
 
     -- the opponent's stones, less the one removed, are the next mover's
-    pub after-sets : positionOf (afterPly board n) ≡ record { mover = without (position .opponent) (removedOf n); opponent = with (without (position .mover) (fromOf n)) (toOf n) }
+    pub after-sets : positionOf (afterPly board n) ≡ record {
+      mover = without (position .opponent) (removedOf n);
+      opponent = with
+          (without (position .mover) (fromOf n)) (toOf n);
+    }
     unfolding afterPly
     after-sets =
         let w = removed-before board (fromOf n) (toOf n) (removedOf n) lf lt (move .own) (move .vacant) values removed in

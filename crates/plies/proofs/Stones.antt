@@ -85,7 +85,13 @@ module _ (rings : ℕ) (position : Position) (placed : Placed rings position) wh
   -- 32 stones of 1,024 moves each, and more are not to be had
   pub moves-small : length (given fromStone (position .mover)) ≤ 32768
   moves-small =
-      omega (arith, each-le fromStone 1024 (elements 32 (position .mover)) (λ from m. few from), length-elements 32 (position .mover), members-le (position .mover) 32)
+      omega (
+        arith,
+        each-le fromStone 1024 (elements 32 (position .mover)) (λ from m. few from),
+        length-elements 32 (position .mover),
+        members-le
+            (position .mover) 32,
+      )
     where
       few : (from : ℕ) → length (fromStone from) ≤ 1024
       few from =

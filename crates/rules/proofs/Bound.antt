@@ -34,7 +34,8 @@ module _ (rings : ℕ) (small : rings ≤ 3) where
   unfolding removable unshielded
   removable-le b whole =
       let h = length-holding b whole 2 in
-      orElse-le (count 2 b) (unshielded rings b) (holding rings b 2) (omega (arith, h, keep-le (λ p. not (inMill rings (holds b 2) p)) (holding rings b 2))) (omega (arith, h))
+      orElse-le (count 2 b) (unshielded rings b) (holding rings b 2)
+      (omega (arith, h, keep-le (λ p. not (inMill rings (holds b 2) p)) (holding rings b 2))) (omega (arith, h))
 
   removals-le : (b : List ℕ) → length b ≡ 8 * rings → 1 ≤ count 2 b → (to : ℕ) → length (removals (λ n c. removable n c) rings b to) ≤ count 2 b
   unfolding removals
@@ -71,7 +72,8 @@ module _ (rings : ℕ) (small : rings ≤ 3) where
     unfolding targets holding neighbours
     near-few n from h =
         let same : keep (λ to. eqb (count 1 b) 3 || adjoin from to) (points rings) ≡ neighbours rings from =
-        keep-same (λ to. eqb (count 1 b) 3 || adjoin from to) (λ to. adjoin from to) (points rings) (λ to i. ap (λ (x : Bool). x || adjoin from to) (ne-eqb (count 1 b) 3 n)) in
+        keep-same (λ to. eqb (count 1 b) 3 || adjoin from to) (λ to. adjoin from to) (points rings)
+        (λ to i. ap (λ (x : Bool). x || adjoin from to) (ne-eqb (count 1 b) 3 n)) in
         omega (
           arith,
           ap length (keep-keep (λ to. eqb (count 1 b) 3 || adjoin from to) (holds b 0) (points rings) ∙ ap (keep (holds b 0)) same),
@@ -85,14 +87,17 @@ module _ (rings : ℕ) (small : rings ≤ 3) where
         → length (stoneMoves (λ n c. removable n c) rings b from (targets rings b from)) ≤ k * count 2 b
     stone-few k few from i =
         let h = holding-is rings b 1 from i in
-        le-trans (each-le (λ to. slideMoves (λ n c. removable n c) rings b from to) (count 2 b) (targets rings b from) (λ to t. slide-few from to (h .1) (h .0) t))
+        le-trans (each-le (λ to. slideMoves (λ n c. removable n c) rings b from to) (count 2 b) (targets rings b from)
+        (λ to t. slide-few from to (h .1) (h .0) t))
         (mul-le-mul-right (count 2 b) (few from (omega (arith, h .0))))
 
-    all-few : (k : ℕ) → ((from : ℕ) → from < 24 → length (targets rings b from) ≤ k) → length (moves (λ n c. removable n c) rings b) ≤ count 1 b * (k * count 2 b)
+    all-few : (k : ℕ) → ((from : ℕ) → from < 24 → length (targets rings b from) ≤ k)
+        → length (moves (λ n c. removable n c) rings b) ≤ count 1 b * (k * count 2 b)
     unfolding moves
     all-few k few =
         subst (λ (n : ℕ). length (moves (λ n c. removable n c) rings b) ≤ n * (k * count 2 b)) (length-holding b whole 1)
-        (each-le (λ from. stoneMoves (λ n c. removable n c) rings b from (targets rings b from)) (k * count 2 b) (holding rings b 1) (λ from i. stone-few k few from i))
+        (each-le (λ from. stoneMoves (λ n c. removable n c) rings b from (targets rings b from)) (k * count 2 b) (holding rings b 1)
+        (λ from i. stone-few k few from i))
 
     pub moves-bound : length (moves (λ n c. removable n c) rings b) ≤ 324
     moves-bound = go (eqb (count 1 b) 3) refl

@@ -77,7 +77,8 @@ module _ (b : List ℕ) (from to : ℕ) (hf : from < length b) (ht : to < length
   unfolding slide
   slide-opponent own vacant =
       set-without 2 (set b from 0) to 1 to-low refl
-      ∙ ap (λ (s : ℕ). without s to) (set-without 2 b from 0 hf refl ∙ without-absent (setOf 2 b) from (bit-set 2 b from hf ∙ ap (λ (x : ℕ). digit (eqb x 2)) own))
+      ∙ ap (λ (s : ℕ). without s to) (set-without 2 b from 0 hf refl
+      ∙ without-absent (setOf 2 b) from (bit-set 2 b from hf ∙ ap (λ (x : ℕ). digit (eqb x 2)) own))
       ∙ without-absent (setOf 2 b) to (bit-set 2 b to ht ∙ ap (λ (x : ℕ). digit (eqb x 2)) vacant)
 
 -- where a stone may go: with three stones to every vacant point, else to those among its neighbours
@@ -95,8 +96,10 @@ module _ (rings : ℕ) (small : rings ≤ 3) (b : List ℕ) (whole : length b �
   unfolding targets neighbours points
   targets-slide n =
       same-set (8 * rings) (setFrom (targets rings b from)) (bitAnd (setOf 0 b) (setFrom (neighbours rings from)))
-      (from-lt (8 * rings) (targets rings b from) (λ p m. target-vacant rings b from p m .0)) (omega (arith, and-le-l (setOf 0 b) (setFrom (neighbours rings from)), set-within rings small b whole 0))
-      (λ p h. go p h (bit-cases (setFrom (targets rings b from)) p) (bit-cases (setOf 0 b) p) (bit-cases (setFrom (neighbours rings from)) p) ∙ sym (bit-and (setOf 0 b) (setFrom (neighbours rings from)) p))
+      (from-lt (8 * rings) (targets rings b from) (λ p m. target-vacant rings b from p m .0))
+      (omega (arith, and-le-l (setOf 0 b) (setFrom (neighbours rings from)), set-within rings small b whole 0))
+      (λ p h. go p h (bit-cases (setFrom (targets rings b from)) p) (bit-cases (setOf 0 b) p) (bit-cases (setFrom (neighbours rings from)) p)
+      ∙ sym (bit-and (setOf 0 b) (setFrom (neighbours rings from)) p))
     where
       kept : (p : ℕ) → p < 8 * rings → bit (setOf 0 b) p ≡ 1 → bit (setFrom (neighbours rings from)) p ≡ 1 → bit (setFrom (targets rings b from)) p ≡ 1
       kept p h v a =

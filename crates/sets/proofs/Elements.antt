@@ -241,7 +241,8 @@ module _ (s : ℕ) (fits : s < 2 ^ 32) (some : s ≡ 0 → ⊥) where
 -- no members
 pub elements-none : (n : ℕ) → elements n 0 ≡ []
 elements-none n =
-    rising-same (elements n 0) [] (elements-rising n 0) tt (λ p m. absurd (omega (arith, elements-is n 0 p m .1, bit-empty p))) (λ p m. absurd (List·Memᴰ·not-nil m))
+    rising-same (elements n 0) [] (elements-rising n 0) tt (λ p m. absurd (omega (arith, elements-is n 0 p m .1, bit-empty p)))
+    (λ p m. absurd (List·Memᴰ·not-nil m))
 
 -- who is left was there before
 without-among : (s p q : ℕ) → bit (without s p) q ≡ 1 → bit s q ≡ 1

@@ -54,12 +54,15 @@ on c =
     subst (λ (p : Position). Placed (a .rings) p) (sym (c .position-of .ensures)) (placed (a .rings) (a .board .now) (board x))
 
 same : (c : tie.After-position-of) (move : ℕ)
-    → member move (listedMoves (c .before .before .before .before .before .before .before .args .rings) (boardOf (8 * c .before .before .before .before .before .before .before .args .rings) (c .position-of .result)))
-    ≡ member move (listedMoves (c .before .before .before .before .before .before .before .args .rings) (c .before .before .before .before .before .before .before .args .board .now))
+    → member move (listedMoves (c .before .before .before .before .before .before .before .args .rings)
+    (boardOf (8 * c .before .before .before .before .before .before .before .args .rings) (c .position-of .result)))
+    ≡ member move (listedMoves (c .before .before .before .before .before .before .before .args .rings)
+    (c .before .before .before .before .before .before .before .args .board .now))
 same c move =
     let x = c .before .before .before in
     let a = x .before .before .before .before .args in
-    ap (member move) (ap (λ (p : Position). listedMoves (a .rings) (boardOf (8 * a .rings) p)) (c .position-of .ensures) ∙ moves-back (a .rings) (a .board .now) (board x))
+    ap (member move) (ap (λ (p : Position). listedMoves (a .rings) (boardOf (8 * a .rings) p)) (c .position-of .ensures)
+    ∙ moves-back (a .rings) (a .board .now) (board x))
 
 of-target-requires : tie.Need-of-target-requires
 of-target-requires c κs = search needs

@@ -58,8 +58,10 @@ on c =
     subst (λ (p : Position). Placed (a .rings) p) (sym (c .position-of .ensures)) (placed (a .rings) (a .board .now) (board x))
 
 same : (c : tie.After-position-of)
-    → listedMoves (c .before .before .before .before .before .before .before .args .rings) (boardOf (8 * c .before .before .before .before .before .before .before .args .rings) (c .position-of .result))
-    ≡ listedMoves (c .before .before .before .before .before .before .before .args .rings) (c .before .before .before .before .before .before .before .args .board .now)
+    → listedMoves (c .before .before .before .before .before .before .before .args .rings)
+    (boardOf (8 * c .before .before .before .before .before .before .before .args .rings) (c .position-of .result))
+    ≡ listedMoves (c .before .before .before .before .before .before .before .args .rings)
+    (c .before .before .before .before .before .before .before .args .board .now)
 same c =
     let x = c .before .before .before in
     let a = x .before .before .before .before .args in
@@ -73,7 +75,8 @@ returns c =
     let a = c .before .before .before .before .args in
     let n = c .before .of-board .result in
     turned-back (a .rings) (a .board .now) (a .list .now) n (c .if1 .taken)
-    (short-refused (a .rings) (a .board .now) (length (a .list .now)) (length (listedMoves (a .rings) (a .board .now))) n (c .if1 .taken) (c .before .of-board .ensures))
+    (short-refused (a .rings) (a .board .now) (length (a .list .now)) (length (listedMoves (a .rings) (a .board .now))) n (c .if1 .taken)
+    (c .before .of-board .ensures))
 
 neighbour-masks-requires : tie.Need-neighbour-masks-requires
 neighbour-masks-requires c κs = board c .rings-high

@@ -57,7 +57,8 @@ of-counts-requires c κs = search needs
 returns : tie.Need-returns
 returns c =
     let a = c .before .before .before .args in
-    let e = counts-refused (a .rings) (a .mover) (a .opponent) (a .rank) (length (a .target .now)) (c .before .of-counts .result) (c .if1 .taken) (c .before .of-counts .ensures) in
+    let e = counts-refused (a .rings) (a .mover) (a .opponent) (a .rank) (length (a .target .now)) (c .before .of-counts .result) (c .if1 .taken)
+    (c .before .of-counts .ensures) in
     turned-back (a .rings) (a .mover) (a .opponent) (a .rank) (a .target .now) (c .before .of-counts .result) (c .if1 .taken) e
 
 binomial-table-requires : tie.Need-binomial-table-requires

@@ -28,7 +28,8 @@ module _ (rings : ℕ) (b old : List ℕ) where
     target-kept n (refusal (shortPicks rings b (length old) (frameLength rings))) (sets old 0 (frameOf rings b)) old z e,
   )
 
-  written : (n : ℕ) (new : List ℕ) → 0 ≡ refusal (shortPicks rings b (length old) (frameLength rings)) → n ≡ frameLength rings → new ≡ sets old 0 (frameOf rings b)
+  written : (n : ℕ) (new : List ℕ) → 0 ≡ refusal (shortPicks rings b (length old) (frameLength rings)) → n ≡ frameLength rings → new
+      ≡ sets old 0 (frameOf rings b)
       → (accepted (n ∷ []) ≡ writeFrameCall rings b old) × (new ≡ writeFrameTarget rings b old)
   unfolding writeFrameCall writeFrameTarget
   written n new z l e = (

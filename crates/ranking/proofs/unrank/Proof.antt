@@ -95,7 +95,8 @@ loop-again : tie.Need-loop-again Inv-loop μ-loop
 loop-again c =
     let x = c .before .before .before in
     let v : ℕ = c .before .top-value .result in
-    let e : x .loop .r - c .below .result ≡ x .loop .r - below v (x .loop .i - 1) (x .loop .m) (x .loop .o) = ap (λ (k : ℕ). x .loop .r - k) (c .below .ensures) in
+    let e : x .loop .r - c .below .result ≡ x .loop .r - below v (x .loop .i - 1) (x .loop .m) (x .loop .o) = ap (λ (k : ℕ). x .loop .r - k)
+    (c .below .ensures) in
     (rw e (unranking-more v (x .loop .inv .0) (c .before .before .loop-test .taken) (c .before .top-value .ensures)), omega arith)
 
 returns : tie.Need-returns Inv-loop μ-loop

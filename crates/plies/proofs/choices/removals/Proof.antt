@@ -12,7 +12,9 @@ use Rattle.plies.proofs.choices.removals.Tie as tie
 
 -- whether the slide closes a mill
 closed : (m : tie.After-in-mill) (b : Bool) → m .in-mill .result ≡ b
-    → inMill (m .before .before .before .args .rings) (λ q. has (with (without (m .before .before .before .args .position .mover) (m .before .before .before .args .from)) (m .before .before .before .args .to)) q) (m .before .before .before .args .to) ≡ b
+    → inMill (m .before .before .before .args .rings) (λ q. has
+    (with (without (m .before .before .before .args .position .mover) (m .before .before .before .args .from))
+    (m .before .before .before .args .to)) q) (m .before .before .before .args .to) ≡ b
 closed m b e =
     let a = m .before .before .before .args in
     sym (m .in-mill .ensures ∙ ap (λ (s : ℕ). inMill (a .rings) (λ q. has s q) (a .to))

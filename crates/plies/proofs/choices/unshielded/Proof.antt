@@ -15,7 +15,8 @@ use Rattle.plies.proofs.choices.unshielded.Tie as tie
 abbrev Inv-loop : tie.InvT-loop
 Inv-loop rings mills side s₀ left₀ s left =
     (left < 2 ^ 24)
-    × (withAll s (keep (λ p. not (inMill rings (λ q. has side q) p)) (elements 32 left)) ≡ setFrom (keep (λ p. not (inMill rings (λ q. has side q) p)) (elements 32 side)))
+    × (withAll s (keep (λ p. not (inMill rings (λ q. has side q) p)) (elements 32 left))
+    ≡ setFrom (keep (λ p. not (inMill rings (λ q. has side q) p)) (elements 32 side)))
 
 abbrev μ-loop : tie.MeasureT-loop
 μ-loop rings mills side s₀ left₀ s left = left
@@ -63,7 +64,8 @@ returns c =
     let x = c .before in
     let a = x .before .args in
     let f : ℕ → Bool = λ p. not (inMill (a .rings) (λ q. has (a .side) q) p) in
-    sym (ap (λ (l : List ℕ). withAll (x .loop .s) (keep f l)) (ap (elements 32) (c .loop-test .left) ∙ elements-none 32) ∙ with-none (x .loop .s)) ∙ x .loop .inv .1
+    sym (ap (λ (l : List ℕ). withAll (x .loop .s) (keep f l)) (ap (elements 32) (c .loop-test .left) ∙ elements-none 32)
+    ∙ with-none (x .loop .s)) ∙ x .loop .inv .1
 
 pub unshielded-spec : {M : Type 1} → statement M
 unshielded-spec =

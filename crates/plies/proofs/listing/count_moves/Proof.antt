@@ -15,7 +15,8 @@ use Rattle.plies.proofs.listing.count_moves.Tie as tie
 
 abbrev Inv-loop : tie.InvT-loop
 Inv-loop rings near mills position n₀ left₀ n left =
-    Counted (λ from. stoneMoves (λ m b. removable m b) rings (boardOf (8 * rings) position) from (targets rings (boardOf (8 * rings) position) from)) (position .mover) n left
+    Counted (λ from. stoneMoves (λ m b. removable m b) rings (boardOf (8 * rings) position) from
+    (targets rings (boardOf (8 * rings) position) from)) (position .mover) n left
 
 abbrev μ-loop : tie.MeasureT-loop
 μ-loop rings near mills position n₀ left₀ n left = left
@@ -41,8 +42,14 @@ lowest-requires c κs = c .loop-test .taken
 
 targets-requires : tie.Need-targets-requires Inv-loop μ-loop
 targets-requires c κs =
-    let s = c .before .before .before in
-    (s .pre .0, (s .pre .1 .1, bit-low 24 (s .args .position .mover) (c .lowest .result) (mover-small (s .args .rings) (s .args .position) (s .pre .1 .1)) (own c)))
+    let s = c .before .before .before in (
+      s .pre .0,
+      (
+        s .pre .1 .1,
+        bit-low 24 (s .args .position .mover) (c .lowest .result)
+            (mover-small (s .args .rings) (s .args .position) (s .pre .1 .1)) (own c),
+      ),
+    )
 
 count-stone-requires : tie.Need-count-stone-requires Inv-loop μ-loop
 count-stone-requires c κs =
@@ -73,7 +80,8 @@ loop-again c =
     let s = x .before in
     counted-more _ (s .args .position .mover) (x .loop .n) (x .loop .left) (t .before .lowest .result) (c .without .result) (c .before .count-stone .result)
     (x .loop .inv) (step (t .before) (c .without .result) (c .without .ensures))
-    (c .before .count-stone .ensures .0 ∙ ap length (stone-given (s .args .rings) (s .args .position) (s .pre .1 .1) (t .before .lowest .result) (t .targets .result) (t .targets .ensures)))
+    (c .before .count-stone .ensures .0 ∙ ap length (stone-given (s .args .rings) (s .args .position) (s .pre .1 .1) (t .before .lowest .result)
+    (t .targets .result) (t .targets .ensures)))
 
 returns : tie.Need-returns Inv-loop μ-loop
 returns c =

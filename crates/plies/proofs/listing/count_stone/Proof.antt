@@ -15,7 +15,8 @@ use Rattle.plies.proofs.listing.count_stone.Statement.{statement}
 use Rattle.plies.proofs.listing.count_stone.Tie as tie
 
 abbrev Inv-loop : tie.InvT-loop
-Inv-loop rings mills position from tos n₀ left₀ n left = Counted (λ to. slideMoves (λ m b. removable m b) rings (boardOf (8 * rings) position) from to) tos n left
+Inv-loop rings mills position from tos n₀ left₀ n left = Counted
+    (λ to. slideMoves (λ m b. removable m b) rings (boardOf (8 * rings) position) from to) tos n left
 
 abbrev μ-loop : tie.MeasureT-loop
 μ-loop rings mills position from tos n₀ left₀ n left = left
@@ -52,8 +53,14 @@ lowest-requires c κs = c .loop-test .taken
 removals-requires : tie.Need-removals-requires Inv-loop μ-loop
 removals-requires c κs =
     let x = c .before .before in
-    let s = x .before in
-    (s .pre .0, (s .pre .1 .0, s .pre .1 .1 (c .lowest .result) (x .loop .inv .among (c .lowest .result) (step c (without (x .loop .left) (c .lowest .result)) refl .member))))
+    let s = x .before in (
+      s .pre .0,
+      (
+        s .pre .1 .0,
+        s .pre .1 .1 (c .lowest .result)
+            (x .loop .inv .among (c .lowest .result) (step c (without (x .loop .left) (c .lowest .result)) refl .member)),
+      ),
+    )
 
 count-requires : tie.Need-count-requires Inv-loop μ-loop
 count-requires c κs = tt
@@ -76,7 +83,8 @@ loop-less c = step (c .before .before .before) (c .without .result) (c .without 
 loop-again : tie.Need-loop-again Inv-loop μ-loop
 loop-again c =
     let x = c .before .before .before .before .before in
-    counted-more _ (x .before .args .tos) (x .loop .n) (x .loop .left) (c .before .before .before .lowest .result) (c .without .result) (c .before .count .result)
+    counted-more _ (x .before .args .tos) (x .loop .n) (x .loop .left) (c .before .before .before .lowest .result) (c .without .result)
+    (c .before .count .result)
     (x .loop .inv) (step (c .before .before .before) (c .without .result) (c .without .ensures)) (found (c .before) .0)
 
 returns : tie.Need-returns Inv-loop μ-loop

@@ -17,7 +17,8 @@ use Rattle.plies.proofs.listing.list_moves.Tie as tie
 
 abbrev Inv-loop : tie.InvT-loop
 Inv-loop rings near mills position list₀ k₀ left₀ list k left =
-    Written (λ from. stoneMoves (λ m b. removable m b) rings (boardOf (8 * rings) position) from (targets rings (boardOf (8 * rings) position) from)) list₀ 0 (position .mover) list k left
+    Written (λ from. stoneMoves (λ m b. removable m b) rings (boardOf (8 * rings) position) from
+    (targets rings (boardOf (8 * rings) position) from)) list₀ 0 (position .mover) list k left
 
 abbrev μ-loop : tie.MeasureT-loop
 μ-loop rings near mills position list₀ k₀ left₀ list k left = left
@@ -56,8 +57,14 @@ lowest-requires c κs = c .loop-test .taken
 
 targets-requires : tie.Need-targets-requires Inv-loop μ-loop
 targets-requires c κs =
-    let s = c .before .before .before .before in
-    (s .pre .0, (s .pre .1 .1 .0, bit-low 24 (s .args .position .mover) (c .lowest .result) (mover-small (s .args .rings) (s .args .position) (s .pre .1 .1 .0)) (own c)))
+    let s = c .before .before .before .before in (
+      s .pre .0,
+      (
+        s .pre .1 .1 .0,
+        bit-low 24 (s .args .position .mover) (c .lowest .result)
+            (mover-small (s .args .rings) (s .args .position) (s .pre .1 .1 .0)) (own c),
+      ),
+    )
 
 list-stone-requires : tie.Need-list-stone-requires Inv-loop μ-loop
 list-stone-requires c κs =
@@ -69,11 +76,16 @@ list-stone-requires c κs =
     let rest : ℕ = without (x .loop .left) from in (
       s .pre .1 .0,
       (
-        (s .pre .1 .1 .0, λ to e. targets-vacant (a .rings) (a .position) (s .pre .1 .1 .0) from (own (t .before)) to (sym (ap (λ (y : ℕ). bit y to) (t .targets .ensures)) ∙ e)),
+        (
+          s .pre .1 .1 .0,
+          λ to e. targets-vacant (a .rings) (a .position) (s .pre .1 .1 .0) from (own (t .before)) to
+              (sym (ap (λ (y : ℕ). bit y to) (t .targets .ensures)) ∙ e),
+        ),
         omega (
           arith,
           ap length (found t),
-          written-room _ (a .list .now) 0 (a .position .mover) (x .loop .list) (x .loop .k) (x .loop .left) from rest (x .loop .inv) (step (t .before) rest refl)
+          written-room _ (a .list .now) 0 (a .position .mover) (x .loop .list) (x .loop .k) (x .loop .left) from rest (x .loop .inv)
+              (step (t .before) rest refl)
               (omega (arith, s .pre .1 .1 .1, ap length (moves-given (a .rings) (a .position) (s .pre .1 .1 .0)))),
         ),
       ),
@@ -92,7 +104,8 @@ loop-again c =
     let x = t .before .before .before in
     let a = x .before .before .args in
     let e = m .list-stone .ensures in
-    written-more _ (a .list .now) 0 (a .position .mover) (x .loop .list) (x .loop .k) (x .loop .left) (t .before .lowest .result) (c .without .result) _ (m .list-stone .result)
+    written-more _ (a .list .now) 0 (a .position .mover) (x .loop .list) (x .loop .k) (x .loop .left) (t .before .lowest .result)
+    (c .without .result) _ (m .list-stone .result)
     (x .loop .inv) (step (t .before) (c .without .result) (c .without .ensures))
     (e .0 ∙ ap (λ (l : List ℕ). x .loop .k + length l) (found t)) (e .1 ∙ ap (sets (x .loop .list) (x .loop .k)) (found t))
 

@@ -31,7 +31,8 @@ room c =
     let x = c .before .before in
     let a = x .before .before .args in
     let e = each-map (λ p. a .base + p) (elements 32 (a .removals)) in
-    written-room _ (a .list .now) (a .at) (a .removals) (x .loop .list) (x .loop .k) (x .loop .left) (c .lowest .result) (without (x .loop .left) (c .lowest .result))
+    written-room _ (a .list .now) (a .at) (a .removals) (x .loop .list) (x .loop .k) (x .loop .left) (c .lowest .result)
+    (without (x .loop .left) (c .lowest .result))
     (x .loop .inv) (step c (without (x .loop .left) (c .lowest .result)) refl)
     (omega (arith, x .before .before .pre .1, ap length e, length-map (elements 32 (a .removals)) (λ p. a .base + p)))
 
@@ -79,8 +80,11 @@ returns c =
     let x = c .before in
     let a = x .before .before .args in
     let r = written-all _ (a .list .now) (a .at) (a .removals) (x .loop .list) (x .loop .k) (x .loop .left) (x .loop .inv) (c .loop-test .left) in
-    let e = each-map (λ p. a .base + p) (elements 32 (a .removals)) in
-    (r .0 ∙ ap (λ (l : List ℕ). a .at + length l) e ∙ ap (λ (n : ℕ). a .at + n) (length-map (elements 32 (a .removals)) (λ p. a .base + p)), r .1 ∙ ap (sets (a .list .now) (a .at)) e)
+    let e = each-map (λ p. a .base + p) (elements 32 (a .removals)) in (
+      r .0 ∙ ap (λ (l : List ℕ). a .at + length l) e ∙ ap (λ (n : ℕ). a .at + n) (length-map (elements 32 (a .removals)) (λ p. a .base + p)),
+      r .1
+          ∙ ap (sets (a .list .now) (a .at)) e,
+    )
 
 pub list-removals-spec : {M : Type 1} → statement M
 list-removals-spec =

@@ -17,7 +17,8 @@ use Rattle.plies.proofs.listing.list_stone.Statement.{statement}
 use Rattle.plies.proofs.listing.list_stone.Tie as tie
 
 abbrev Inv-loop : tie.InvT-loop
-Inv-loop rings mills position from tos list₀ at k₀ left₀ list k left = Written (λ to. slideMoves (λ m b. removable m b) rings (boardOf (8 * rings) position) from to) list₀ at tos list k left
+Inv-loop rings mills position from tos list₀ at k₀ left₀ list k left = Written
+    (λ to. slideMoves (λ m b. removable m b) rings (boardOf (8 * rings) position) from to) list₀ at tos list k left
 
 abbrev μ-loop : tie.MeasureT-loop
 μ-loop rings mills position from tos list₀ at k₀ left₀ list k left = left
@@ -31,15 +32,22 @@ step c rest e =
 
 -- it is vacant
 slides : (c : tie.After-lowest Inv-loop μ-loop)
-    → Slide (c .before .before .before .before .args .rings) (c .before .before .before .before .args .position) (c .before .before .before .before .args .from) (c .lowest .result)
+    → Slide (c .before .before .before .before .args .rings) (c .before .before .before .before .args .position)
+    (c .before .before .before .before .args .from) (c .lowest .result)
 slides c =
     let x = c .before .before in
-    x .before .before .pre .1 .0 .1 (c .lowest .result) (x .loop .inv .among (c .lowest .result) (step c (without (x .loop .left) (c .lowest .result)) refl .member))
+    x .before .before .pre .1 .0 .1 (c .lowest .result)
+    (x .loop .inv .among (c .lowest .result) (step c (without (x .loop .left) (c .lowest .result)) refl .member))
 
 low : (c : tie.After-removals Inv-loop μ-loop) → c .before .before .before .before .before .args .from < 24
 low c =
     let s = c .before .before .before .before .before in
-    omega (arith, from-low (s .args .rings) (s .args .position) (s .pre .1 .0 .0) (s .args .from) (c .before .lowest .result) (slides (c .before)), s .pre .1 .0 .0 .small)
+    omega (
+      arith,
+      from-low (s .args .rings) (s .args .position) (s .pre .1 .0 .0) (s .args .from) (c .before .lowest .result)
+          (slides (c .before)),
+      s .pre .1 .0 .0 .small,
+    )
 
 -- its moves are those that the set of removals gives
 found : (c : tie.After-removals Inv-loop μ-loop)
@@ -52,7 +60,8 @@ found c =
     let a = s .args in
     let to : ℕ = c .before .lowest .result in
     ap (map (λ p. 1024 * a .from + 32 * to + p))
-    (ap (elements 32) (c .removals .ensures) ∙ elements-removals (a .rings) (s .pre .1 .0 .0 .small) (slide (boardOf (8 * a .rings) (a .position)) (a .from) to) to)
+    (ap (elements 32) (c .removals .ensures) ∙ elements-removals (a .rings) (s .pre .1 .0 .0 .small)
+    (slide (boardOf (8 * a .rings) (a .position)) (a .from) to) to)
 
 loop-holds : tie.Need-loop-holds Inv-loop μ-loop
 loop-holds c =
@@ -89,7 +98,8 @@ list-removals-requires c κs =
         arith,
         length-map (elements 32 (r .removals .result)) (λ p. 1024 * a .from + 32 * to + p),
         ap length (found r),
-        written-room _ (a .list .now) (a .at) (a .tos) (x .loop .list) (x .loop .k) (x .loop .left) to rest (x .loop .inv) (step (r .before) rest refl) (s .pre .1 .1),
+        written-room _ (a .list .now) (a .at) (a .tos) (x .loop .list) (x .loop .k) (x .loop .left) to rest (x .loop .inv)
+            (step (r .before) rest refl) (s .pre .1 .1),
       ),
     )
 

@@ -18,7 +18,11 @@ without-requires-2 : tie.Need-without-requires-2
 without-requires-2 c κs =
     let s = c .before in
     let a = s .args in
-    omega (arith, bit-low 24 (a .position .mover) (a .number / 1024) (mover-small (a .rings) (a .position) (s .pre .0)) (from-listed (a .rings) (a .position) (s .pre .0) (a .number) (s .pre .1)))
+    omega (
+      arith,
+      bit-low 24 (a .position .mover) (a .number / 1024) (mover-small (a .rings) (a .position) (s .pre .0))
+          (from-listed (a .rings) (a .position) (s .pre .0) (a .number) (s .pre .1)),
+    )
 
 with-requires : tie.Need-with-requires
 with-requires c κs = search needs

@@ -18,7 +18,8 @@ use Rattle.plies.proofs.making.is_move.Statement.{statement}
 use Rattle.plies.proofs.making.is_move.Tie as tie
 
 -- the stone is the mover's
-own : (c : tie.Then3) → bit (c .before .before .before .before .before .before .args .position .mover) (c .before .before .before .before .before .before .args .number / 1024) ≡ 1
+own : (c : tie.Then3) → bit (c .before .before .before .before .before .before .args .position .mover)
+    (c .before .before .before .before .before .before .args .number / 1024) ≡ 1
 own c = let h = c .before .before .before in eqb-true _ 1 (sym (h .before .has .ensures) ∙ h .if2 .taken)
 
 -- and may go there
@@ -76,7 +77,8 @@ returns-4 : tie.Need-returns-4
 returns-4 c =
     let s = c .before .before .before in
     let a = s .args in
-    untrue _ (λ e. true≢false (sym (eq-eqb _ 1 (from-listed (a .rings) (a .position) (s .pre .1 .1) (a .number) e)) ∙ sym (c .before .has .ensures) ∙ c .if2 .left))
+    untrue _ (λ e. true≢false (sym (eq-eqb _ 1 (from-listed (a .rings) (a .position) (s .pre .1 .1) (a .number) e))
+    ∙ sym (c .before .has .ensures) ∙ c .if2 .left))
 
 pub is-move-spec : {M : Type 1} → statement M
 is-move-spec =

@@ -10,7 +10,8 @@ use borrow.Author.Needs.{needs}
 use Rattle.plies.proofs.masks.mill_mask.Statement.{statement}
 use Rattle.plies.proofs.masks.mill_mask.Tie as tie
 
-points : (e : tie.Else1) → ThreePoints (millPoint (e .before .before .mill-through .result) 0) (millPoint (e .before .before .mill-through .result) 1) (millPoint (e .before .before .mill-through .result) 2)
+points : (e : tie.Else1) → ThreePoints (millPoint (e .before .before .mill-through .result) 0)
+    (millPoint (e .before .before .mill-through .result) 1) (millPoint (e .before .before .mill-through .result) 2)
 points e = mill-points (e .before .before .mill-through .result) (e .before .before .mill-through .ensures .1)
 
 mill-through-requires : tie.Need-mill-through-requires
@@ -50,7 +51,8 @@ returns-2 c =
     let e = one .before .before in
     let s = e .before .before .before in
     let n = e .before .before .mill-through .ensures .0 in
-    c .with3 .ensures ∙ ap₂ with (two .with2 .ensures ∙ ap₂ with (one .with .ensures ∙ ap (with 0) (one .before .mill-point .ensures ∙ ap (λ (i : ℕ). millPoint i 0) n))
+    c .with3 .ensures ∙ ap₂ with (two .with2 .ensures ∙ ap₂ with
+    (one .with .ensures ∙ ap (with 0) (one .before .mill-point .ensures ∙ ap (λ (i : ℕ). millPoint i 0) n))
     (two .before .mill-point2 .ensures ∙ ap (λ (i : ℕ). millPoint i 1) n)) (c .before .mill-point3 .ensures ∙ ap (λ (i : ℕ). millPoint i 2) n)
     ∙ mask-present (s .args .p) (s .args .j) (s .pre .1 .2) (s .pre .1 .3) (s .args .rings) (s .pre .1 .0) (s .pre .1 .1)
     (omega (arith, e .if1 .left, e .before .mill-count .ensures, n))

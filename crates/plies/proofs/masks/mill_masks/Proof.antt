@@ -52,7 +52,8 @@ loop-again c =
 returns : tie.Need-returns Inv-loop μ-loop
 returns c = record { at = at }
   where
-    at : (p j : ℕ) → p < 24 → j < 2 → getD (c .before .loop .masks) (2 * p + j) 0 ≡ setFrom (getD (millsThrough (c .before .before .before .args .rings) p) j [])
+    at : (p j : ℕ) → p < 24 → j < 2 → getD (c .before .loop .masks) (2 * p + j) 0
+        ≡ setFrom (getD (millsThrough (c .before .before .before .args .rings) p) j [])
     at p j h l =
         let k : ℕ = 2 * p + j in
         let e : k / 2 ≡ p = omega arith in

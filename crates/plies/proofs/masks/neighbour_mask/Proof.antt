@@ -62,7 +62,8 @@ loop-again c =
     let e : suc j ≡ j + 1 = omega arith in (
       omega arith,
       ap₂ (λ (s i : ℕ). withAll s (keep (λ q. ltb q (8 * a .rings)) (drop i n)))
-          (c .with-used .ensures ∙ ap (λ (q : ℕ). elim (ltb q (8 * a .rings)) [ true ↦ with (x .loop .s) q | false ↦ x .loop .s ]) (c .before .neighbour .ensures)) (sym e)
+          (c .with-used .ensures ∙ ap (λ (q : ℕ). elim (ltb q (8 * a .rings)) [ true ↦ with (x .loop .s) q | false ↦ x .loop .s ])
+          (c .before .neighbour .ensures)) (sym e)
           ∙ sym (with-kept (λ q. ltb q (8 * a .rings)) (x .loop .s) (getD n j 0) (drop (suc j) n))
           ∙ ap (λ (l : List ℕ). withAll (x .loop .s) (keep (λ q. ltb q (8 * a .rings)) l)) (sym (drop-cons n j 0 low))
           ∙ x .loop .inv .1,
@@ -73,7 +74,8 @@ returns c =
     let x = c .before in
     let n : List ℕ = neighbours 3 (x .before .before .args .p) in
     let e : x .loop .j ≡ length n = omega (arith, x .before .degree .ensures) in
-    sym (with-none (x .loop .s)) ∙ ap (λ (l : List ℕ). withAll (x .loop .s) (keep (λ q. ltb q (8 * x .before .before .args .rings)) l)) (sym (ap (λ (i : ℕ). drop i n) e ∙ drop-length n))
+    sym (with-none (x .loop .s)) ∙ ap (λ (l : List ℕ). withAll (x .loop .s) (keep (λ q. ltb q (8 * x .before .before .args .rings)) l))
+    (sym (ap (λ (i : ℕ). drop i n) e ∙ drop-length n))
     ∙ x .loop .inv .1
 
 pub neighbour-mask-spec : {M : Type 1} → statement M
