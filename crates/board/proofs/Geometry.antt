@@ -1,18 +1,18 @@
 -- What document 01 says of the whole board, by computation: how many mills and neighbour pairs there are. Fewer rings have a part of the
 -- tables of three rings: the neighbours that are points of theirs, and the first mills. Assumes nothing.
 use mathlib.Core.Path.{_≡_, refl, subst}
-use mathlib.Core.Bool.{Bool, true, not}
-use mathlib.Core.List.{[], _∷_}
+use mathlib.Core.Bool.{Bool}
+use mathlib.Core.List.{List, [], _∷_}
 use Prim.Native.Nat.{ℕ, zero, suc, _+_, _*_, _-_, _/_, _≤_, _<_}
 use native.Mathlib.Nat.{zero-add}
 use native.Mathlib.Omega.{arith}
 use lib.Dec.{eqb, ltb, leb}
 use lib.ListN.{length, take, getD}
-use borrow.Author.Tests.{ltb-true, leb-true, eqb-false, not-true}
-use Rattle.lists.specs.Lists.{range, keep, all, each}
+use borrow.Author.Tests.{ltb-true, leb-true, eqb-true}
+use Rattle.lists.specs.Lists.{range, keep, each}
 use Rattle.board.specs.Geometry.{points, follows, inward, adjoin, neighbours, ringMills, crossMills, mills}
 use Rattle.board.specs.Tables.{millPoint}
-use Rattle.lists.proofs.Table.{passed, every-at}
+use Rattle.lists.proofs.Table.{every-at}
 use Rattle.lists.proofs.Keep.{keep-below}
 use Rattle.lists.proofs.Members.{keep-member, range-member, getD-member}
 
@@ -52,27 +52,29 @@ neighbours-within rings p h =
     subst (λ (k : ℕ). keep (λ q. ltb q n) (keep (λ q. adjoin p q) (range 0 k)) ≡ keep (λ q. adjoin p q) (range 0 n)) e
     (keep-below (λ q. adjoin p q) n n (24 - n) 0 (omega arith))
 
--- the points of a mill are points of the board, and differ
-inside : ℕ → ℕ → Bool
-inside j i = ltb (millPoint i j) 24
+-- a mill is the list of its three points, which are points of the board
+threeAt : ℕ → Bool
+threeAt i = eqb (length (getD (mills 3) i [])) 3
 
-apart : ℕ → ℕ → ℕ → Bool
-apart j k i = not (eqb (millPoint i j) (millPoint i k))
+insideAt : ℕ → ℕ → Bool
+insideAt j i = ltb (millPoint i j) 24
 
-pub record ThreePoints (a b c : ℕ) : Type 0 where
-  pub low : (a < 24) × (b < 24) × (c < 24)
-  pub differ : (b ≡ a → ⊥) × (c ≡ a → ⊥) × (c ≡ b → ⊥)
+three-points : (l : List ℕ) → length l ≡ 3 → l ≡ getD l 0 0 ∷ getD l 1 0 ∷ getD l 2 0 ∷ []
+three-points [] e = absurd (omega (arith, e))
+three-points (a ∷ []) e = absurd (omega (arith, e))
+three-points (a ∷ b ∷ []) e = absurd (omega (arith, e))
+three-points (a ∷ b ∷ c ∷ []) e = refl
+three-points (a ∷ b ∷ c ∷ d ∷ l) e = absurd (omega (arith, e))
 
-pub mill-points : (i : ℕ) → i < 16 → ThreePoints (millPoint i 0) (millPoint i 1) (millPoint i 2)
-unfolding inside apart millPoint mills ringMills crossMills
-mill-points i h =
-    record { low = (low 0 refl, low 1 refl, low 2 refl); differ = (differ 1 0 refl, differ 2 0 refl, differ 2 1 refl) }
-  where
-    low : (j : ℕ) → all (inside j) (range 0 16) ≡ true → millPoint i j < 24
-    low j t = ltb-true _ _ (passed (inside j) 16 0 i t (omega arith) (omega arith))
+module _ (i : ℕ) (h : i < 16) where
+  pub mill-list : getD (mills 3) i [] ≡ millPoint i 0 ∷ millPoint i 1 ∷ millPoint i 2 ∷ []
+  unfolding threeAt millPoint mills ringMills crossMills
+  mill-list = three-points (getD (mills 3) i []) (eqb-true _ 3 (every-at 16 threeAt refl i h))
 
-    differ : (j k : ℕ) → all (apart j k) (range 0 16) ≡ true → millPoint i j ≡ millPoint i k → ⊥
-    differ j k t = eqb-false _ _ (not-true _ (passed (apart j k) 16 0 i t (omega arith) (omega arith)))
+  pub mill-points : (millPoint i 0 < 24) × (millPoint i 1 < 24) × (millPoint i 2 < 24)
+  unfolding insideAt millPoint mills ringMills crossMills
+  mill-points =
+      (ltb-true _ _ (every-at 16 (insideAt 0) refl i h), ltb-true _ _ (every-at 16 (insideAt 1) refl i h), ltb-true _ _ (every-at 16 (insideAt 2) refl i h))
 
 -- a point has four neighbours at the most, all of them points
 fewAt : ℕ → Bool

@@ -1,10 +1,11 @@
 // The fixed tables by point number (document 01, "The board"). An index into a constant makes the whole table anew, so a call takes a table
 // as a value once and lends it down; its rule goes with it as what the borrower requires.
 ghost use mathlib.Core.Path.{_≡_};
+ghost use mathlib.Core.List.{[]};
 ghost use Prim.Native.Nat.{_<_};
 ghost use lib.ListN.{length, getD};
-ghost use Rattle.sets.specs.Sets.{hasAll};
-ghost use Rattle.board.specs.Geometry.{neighbours};
+ghost use Rattle.sets.specs.Sets.{setFrom};
+ghost use Rattle.board.specs.Geometry.{neighbours, mills};
 ghost use Rattle.board.specs.Tables.{NeighbourTable, DegreeTable, MillTable, millPoint};
 
 // Four places for each point: its neighbours by rising number, then zeros.
@@ -227,7 +228,7 @@ pub fn degree(table: &[usize; 24], p: usize) -> usize
 }
 
 // Point j of a mill.
-pub fn mill_point(table: &[usize; 48], mill: usize, j: usize) -> usize
+fn mill_point(table: &[usize; 48], mill: usize, j: usize) -> usize
     requires { ⌜ MillTable (now table) ⌝ }
     requires { ⌜ (mill < 16) × (j < 3) ⌝ }
     ensures { λ r. ⌜ r ≡ millPoint mill j ⌝ }
@@ -235,14 +236,13 @@ pub fn mill_point(table: &[usize; 48], mill: usize, j: usize) -> usize
     table[3 * mill + j]
 }
 
-// Whether a set has all three points of a mill.
-pub fn full_mill(table: &[usize; 48], s: u32, mill: usize) -> bool
+// A mill as a set.
+pub fn mill_set(table: &[usize; 48], mill: usize) -> u32
     requires { ⌜ MillTable (now table) ⌝ }
     requires { ⌜ mill < 16 ⌝ }
-    ensures { λ r. ⌜ r ≡ hasAll s (millPoint mill 0) (millPoint mill 1) (millPoint mill 2) ⌝ }
+    ensures { λ r. ⌜ r ≡ setFrom (getD (mills 3) mill []) ⌝ }
 {
-    sets::has_all(
-        s,
+    sets::of_three(
         mill_point(table, mill, 0),
         mill_point(table, mill, 1),
         mill_point(table, mill, 2),

@@ -9,9 +9,8 @@ use lib.Dec.{eqb, leb}
 use lib.ListN.{length, getD}
 use borrow.Author.Tests.{eqb-true, le-leb, lt-leb}
 use Rattle.lists.proofs.Table.{every, every-at}
-use Rattle.sets.specs.Sets.{with, withAll, setFrom}
+use Rattle.sets.specs.Sets.{withAll, setFrom}
 use Rattle.board.specs.Geometry.{ringMills, crossMills, mills}
-use Rattle.board.specs.Tables.{millPoint}
 use Rattle.plies.specs.Masks.{millNumbers, millsThrough}
 
 -- which mill goes through a point, as the code finds it
@@ -25,7 +24,7 @@ numberAt j p = eqb (throughNumber p j) (getD (millNumbers p) j 0)
 
 -- a mill of the sixteen as a set, where it is one of the board's
 abbrev maskOf : ℕ → ℕ → ℕ
-maskOf rings i = cond (leb (length (mills rings)) i) 0 (with (with (with 0 (millPoint i 0)) (millPoint i 1)) (millPoint i 2))
+maskOf rings i = cond (leb (length (mills rings)) i) 0 (setFrom (getD (mills 3) i []))
 
 maskAt : ℕ → ℕ → ℕ → Bool
 maskAt rings j p = eqb (maskOf rings (getD (millNumbers p) j 0)) (setFrom (getD (millsThrough rings p) j []))
@@ -44,7 +43,7 @@ module _ (p j : ℕ) (hp : p < 24) (hj : j < 2) where
       go (suc (suc j)) h = absurd (omega arith)
 
   pub mask-is : (rings : ℕ) → 1 ≤ rings → rings ≤ 3 → maskOf rings (getD (millNumbers p) j 0) ≡ setFrom (getD (millsThrough rings p) j [])
-  unfolding maskAt millNumbers millsThrough millPoint mills ringMills crossMills setFrom withAll
+  unfolding maskAt millNumbers millsThrough mills ringMills crossMills setFrom withAll
   mask-is = λ rings l h. go rings j l h hj
     where
       at : (rings j : ℕ) → every 24 (maskAt rings j) ≡ true → maskOf rings (getD (millNumbers p) j 0) ≡ setFrom (getD (millsThrough rings p) j [])
@@ -72,7 +71,7 @@ module _ (p j : ℕ) (hp : p < 24) (hj : j < 2) where
     mask-absent a = rw (le-leb (length (mills rings)) number a) at (mask-is rings l h)
 
     pub mask-present : number < length (mills rings)
-        → with (with (with 0 (millPoint number 0)) (millPoint number 1)) (millPoint number 2) ≡ setFrom (getD (millsThrough rings p) j [])
+        → setFrom (getD (mills 3) number []) ≡ setFrom (getD (millsThrough rings p) j [])
     mask-present a = rw (lt-leb (length (mills rings)) number a) at (mask-is rings l h)
 
 -- how many mills a board has

@@ -1,5 +1,4 @@
--- Mills on sets: a mill is full where a set has three points in common with it, and a point has two mills at the most. And who stands in a mill
--- depends on the points of the board alone. Assumes nothing.
+-- Mills on sets: a mill is full where a set has three points in common with it, and a point has two mills at the most. Assumes nothing.
 use mathlib.Core.Path.{_≡_, refl, sym, ap, ap₂, _∙_}
 use mathlib.Core.Bool.{Bool, true, false, not, _&&_, _||_, false≢true}
 use mathlib.Core.List.{List, [], _∷_, List·Memᴰ}
@@ -14,8 +13,8 @@ use Rattle.lists.specs.Lists.{all, any, member}
 use Rattle.lists.proofs.Table.{every, every-at}
 use Rattle.lists.proofs.Members.{keep-member}
 use Rattle.lists.proofs.Tests.{all-member, any-both, any-same, and-left, and-right}
-use Rattle.sets.specs.Sets.{has, members, with, withAll, setFrom}
-use Rattle.sets.proofs.Laws.{members-all, ones-three, has-all-three}
+use Rattle.sets.specs.Sets.{has, members, shared, with, withAll, setFrom}
+use Rattle.sets.proofs.Laws.{members-all, ones-three, three-members}
 use Rattle.board.specs.Geometry.{ringMills, crossMills, mills}
 use Rattle.rules.specs.Ply.{inMill}
 use Rattle.plies.specs.Masks.{millsThrough}
@@ -42,7 +41,7 @@ mill-proper rings h l m = all-member proper (mills rings) (go rings h) l m
 
 -- a set has all three points of a mill
 abbrev pub full : ℕ → List ℕ → Bool
-full s l = eqb (members (bitAnd s (setFrom l)) 32) 3
+full s l = eqb (shared s (setFrom l)) 3
 
 full-none : (s : ℕ) → s < 2 ^ 32 → full s [] ≡ false
 unfolding setFrom withAll ones
@@ -62,7 +61,7 @@ full-three s h (a ∷ b ∷ c ∷ []) e =
     let cb = eqb-false c b (not-true (eqb c b) (and-right (not (eqb c a)) (not (eqb c b)) k)) in
     let m : ℕ = with (with (with 0 a) b) c in
     ap (λ (x : ℕ). eqb x 3) (members-all (bitAnd s m) 32 (omega (arith, and-le-l s m)) ∙ ones-three s a b c ba ca cb)
-    ∙ has-all-three s a b c ∙ three (has s a) (has s b) (has s c)
+    ∙ three-members s a b c ∙ three (has s a) (has s b) (has s c)
   where
     three : (x y z : Bool) → (x && (y && z)) ≡ elim x [ true ↦ elim y [ true ↦ elim z [ true ↦ true | false ↦ false ] | false ↦ false ] | false ↦ false ]
     three true true true = refl

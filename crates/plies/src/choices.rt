@@ -18,7 +18,7 @@ fn in_mill(rings: usize, mills: &[u32; 48], s: u32, p: usize) -> bool
     requires { ⌜ (rings ≤ 3) × (p < 24) ⌝ }
     ensures { λ r. ⌜ r ≡ inMill rings (λ q. has s q) p ⌝ }
 {
-    (sets::count(s & mills[2 * p]) == 3) | (sets::count(s & mills[2 * p + 1]) == 3)
+    sets::share_three(s, mills[2 * p]) | sets::share_three(s, mills[2 * p + 1])
 }
 
 // The set with one stone more, if that stands in no full mill of its side.

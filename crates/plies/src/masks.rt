@@ -94,9 +94,7 @@ fn mill_mask(table: &[usize; 48], rings: usize, p: usize, j: usize) -> u32
     if mill_count(rings) <= mill {
         return 0;
     }
-    let first = sets::with(0, board::mill_point(table, mill, 0));
-    let second = sets::with(first, board::mill_point(table, mill, 1));
-    sets::with(second, board::mill_point(table, mill, 2))
+    board::mill_set(table, mill)
 }
 
 // The mills through all points.

@@ -12,7 +12,7 @@ use lib.Bits.{bitAnd, bitOr, and-step, or-add-and, or-lt, and-high, and-zero-r}
 use lib.Count.{ones, ones-step, ones-cat}
 use lib.Arith.{digits-div, digits-mod}
 use lib.Pow.{shr-shr, mod-pow-add, pow-lt, pow-pos}
-use Rattle.sets.specs.Sets.{bit, with, without, members, hasAll}
+use Rattle.sets.specs.Sets.{bit, has, with, without, members}
 
 -- a digit by recursion on its place
 pub bit-zero : (s : ℕ) → bit s 0 ≡ s % 2
@@ -245,5 +245,5 @@ three x y z hx hy hz =
     (digit-ind (λ (z : ℕ). eqb (1 + 0 + z) 3 ≡ false) refl refl z hz)
     (digit-ind (λ (z : ℕ). eqb (1 + 1 + z) 3 ≡ eqb z 1) refl refl z hz) y hy) x hx
 
-pub has-all-three : (s a b c : ℕ) → eqb (bit s a + bit s b + bit s c) 3 ≡ hasAll s a b c
-has-all-three s a b c = three (bit s a) (bit s b) (bit s c) (bit-lt s a) (bit-lt s b) (bit-lt s c)
+pub three-members : (s a b c : ℕ) → eqb (bit s a + bit s b + bit s c) 3 ≡ (has s a && (has s b && has s c))
+three-members s a b c = three (bit s a) (bit s b) (bit s c) (bit-lt s a) (bit-lt s b) (bit-lt s c)

@@ -1,8 +1,9 @@
 -- A set of points is a number: point p is a member where the binary digit of weight 2 ^ p is 1 (document 01: a point set).
 -- Assumes nothing.
 use Prim.Native.Nat.{ℕ, zero, suc, _+_, _-_, _*_, _/_, _%_, _^_}
-use mathlib.Core.Bool.{Bool, _&&_}
+use mathlib.Core.Bool.{Bool}
 use mathlib.Core.List.{List, [], _∷_}
+use lib.Bits.{bitAnd}
 use lib.Dec.{eqb}
 use lib.ListN.{getD}
 use Rattle.lists.specs.Lists.{range, keep}
@@ -28,9 +29,9 @@ unfoldable pub members : ℕ → ℕ → ℕ
 members s zero = 0
 members s (suc n) = members s n + bit s n
 
--- three points are all members
-abbrev pub hasAll : ℕ → ℕ → ℕ → ℕ → Bool
-hasAll s a b c = has s a && (has s b && has s c)
+-- how many points are members of both
+abbrev pub shared : ℕ → ℕ → ℕ
+shared s t = members (bitAnd s t) 32
 
 -- the members below n, by rising number
 unfoldable pub elements : ℕ → ℕ → List ℕ

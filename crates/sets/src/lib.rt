@@ -1,7 +1,9 @@
 // Sets of points, as the binary digits of a u32. A board has 24 points at the most.
 ghost use mathlib.Core.Path.{_≡_};
-ghost use Prim.Native.Nat.{_+_, _<_};
-ghost use Rattle.sets.specs.Sets.{bit, has, with, without, members, hasAll, lowest};
+ghost use mathlib.Core.List.{_∷_, []};
+ghost use Prim.Native.Nat.{_<_};
+ghost use lib.Dec.{eqb};
+ghost use Rattle.sets.specs.Sets.{has, with, without, members, shared, lowest, setFrom};
 
 // Whether a point is a member.
 pub fn has(s: u32, p: usize) -> bool
@@ -34,22 +36,19 @@ pub fn count(s: u32) -> u32
     u32::count_ones(s)
 }
 
-// How many of three different points are members.
-fn of_three(s: u32, a: usize, b: usize, c: usize) -> u32
-    requires { ⌜ (a < 24) × (b < 24) × (c < 24) ⌝ }
-    requires { ⌜ (b ≡ a → ⊥) × (c ≡ a → ⊥) × (c ≡ b → ⊥) ⌝ }
-    ensures { λ r. ⌜ r ≡ bit s a + bit s b + bit s c ⌝ }
+// The set of three points.
+pub fn of_three(a: usize, b: usize, c: usize) -> u32
+    requires { ⌜ (a < 32) × (b < 32) × (c < 32) ⌝ }
+    ensures { λ r. ⌜ r ≡ setFrom (a ∷ b ∷ c ∷ []) ⌝ }
 {
-    u32::count_ones(s & with(with(with(0, a), b), c))
+    with(with(with(0, a), b), c)
 }
 
-// Whether three different points are all members: a count of three decides.
-pub fn has_all(s: u32, a: usize, b: usize, c: usize) -> bool
-    requires { ⌜ (a < 24) × (b < 24) × (c < 24) ⌝ }
-    requires { ⌜ (b ≡ a → ⊥) × (c ≡ a → ⊥) × (c ≡ b → ⊥) ⌝ }
-    ensures { λ r. ⌜ r ≡ hasAll s a b c ⌝ }
+// Whether two sets have three points in common.
+pub fn share_three(s: u32, t: u32) -> bool
+    ensures { λ r. ⌜ r ≡ eqb (shared s t) 3 ⌝ }
 {
-    of_three(s, a, b, c) == 3
+    count(s & t) == 3
 }
 
 // The least member of a set that has one.

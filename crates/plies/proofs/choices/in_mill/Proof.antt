@@ -5,42 +5,41 @@ use mathlib.Core.List.{List, []}
 use Prim.Native.Nat.{ℕ, _*_}
 use native.Mathlib.Nat.{add-zero}
 use native.Mathlib.Omega.{arith}
-use lib.Bits.{bitAnd}
 use lib.Dec.{eqb}
 use lib.ListN.{getD}
-use borrow.Author.Needs.{needs}
-use Rattle.sets.specs.Sets.{members, setFrom}
+use Rattle.sets.specs.Sets.{shared, setFrom}
 use Rattle.plies.specs.Masks.{millsThrough}
 use Rattle.plies.proofs.FullMills.{in-mill-is}
+use borrow.Author.Needs.{needs}
 use Rattle.plies.proofs.choices.in_mill.Statement.{statement}
 use Rattle.plies.proofs.choices.in_mill.Tie as tie
 
-mul-count : tie.Need-mul-count
-mul-count c = search needs
+mul-share-three : tie.Need-mul-share-three
+mul-share-three c = search needs
 
-mul-count-2 : tie.Need-mul-count-2
-mul-count-2 c = search needs
+mul-share-three-2 : tie.Need-mul-share-three-2
+mul-share-three-2 c = search needs
 
-element-copy-out-count : tie.Need-element-copy-out-count
-element-copy-out-count c = search needs
+element-copy-out-share-three : tie.Need-element-copy-out-share-three
+element-copy-out-share-three c = search needs
 
-count-requires : tie.Need-count-requires
-count-requires c κs = search needs
+share-three-requires : tie.Need-share-three-requires
+share-three-requires c κs = search needs
 
-mul-count-3 : tie.Need-mul-count-3
-mul-count-3 c = search needs
+mul-share-three-3 : tie.Need-mul-share-three-3
+mul-share-three-3 c = search needs
 
-add-count : tie.Need-add-count
-add-count c = search needs
+add-share-three : tie.Need-add-share-three
+add-share-three c = search needs
 
-mul-count-4 : tie.Need-mul-count-4
-mul-count-4 c = search needs
+mul-share-three-4 : tie.Need-mul-share-three-4
+mul-share-three-4 c = search needs
 
-element-copy-out-count-2 : tie.Need-element-copy-out-count-2
-element-copy-out-count-2 c = search needs
+element-copy-out-share-three-2 : tie.Need-element-copy-out-share-three-2
+element-copy-out-share-three-2 c = search needs
 
-count-requires-2 : tie.Need-count-requires-2
-count-requires-2 c κs = search needs
+share-three-requires-2 : tie.Need-share-three-requires-2
+share-three-requires-2 c κs = search needs
 
 returns : tie.Need-returns
 returns c =
@@ -49,21 +48,21 @@ returns c =
     let t : List ℕ = a .mills .now in
     let e₀ : getD t (2 * a .p) 0 ≡ setFrom (getD (millsThrough (a .rings) (a .p)) 0 []) =
     ap (λ (i : ℕ). getD t i 0) (sym (add-zero (2 * a .p))) ∙ s .pre .0 .at (a .p) 0 (s .pre .1 .1) (omega arith) in
-    ap₂ (λ (x y : ℕ). eqb x 3 || eqb y 3) (c .before .before .count .ensures ∙ ap (λ (m : ℕ). members (bitAnd (a .s) m) 32) e₀)
-    (c .count2 .ensures ∙ ap (λ (m : ℕ). members (bitAnd (a .s) m) 32) (s .pre .0 .at (a .p) 1 (s .pre .1 .1) (omega arith)))
+    ap₂ _||_ (c .before .before .share-three .ensures ∙ ap (λ (m : ℕ). eqb (shared (a .s) m) 3) e₀)
+    (c .share-three2 .ensures ∙ ap (λ (m : ℕ). eqb (shared (a .s) m) 3) (s .pre .0 .at (a .p) 1 (s .pre .1 .1) (omega arith)))
     ∙ in-mill-is (a .rings) (a .s) (a .p) (s .pre .1 .0) (s .fits .s .fits) (s .pre .1 .1)
 
 pub in-mill-spec : {M : Type 1} → statement M
 in-mill-spec =
     tie.close
     (tie.spec
-    mul-count
-    mul-count-2
-    element-copy-out-count
-    count-requires
-    mul-count-3
-    add-count
-    mul-count-4
-    element-copy-out-count-2
-    count-requires-2
+    mul-share-three
+    mul-share-three-2
+    element-copy-out-share-three
+    share-three-requires
+    mul-share-three-3
+    add-share-three
+    mul-share-three-4
+    element-copy-out-share-three-2
+    share-three-requires-2
     returns)
