@@ -1,20 +1,38 @@
 -- What document 01 says of the whole board, by computation: how many mills and neighbour pairs there are. Fewer rings have a part of the
 -- tables of three rings: the neighbours that are points of theirs, and the first mills. Assumes nothing.
 use mathlib.Core.Path.{_≡_, refl, subst}
-use mathlib.Core.Bool.{Bool}
-use mathlib.Core.List.{List, [], _∷_}
+use mathlib.Core.Bool.{Bool, true, false, not, _&&_}
+use mathlib.Core.List.{List, [], _∷_, List·Memᴰ}
 use Prim.Native.Nat.{ℕ, zero, suc, _+_, _*_, _-_, _/_, _≤_, _<_}
 use native.Mathlib.Nat.{zero-add}
 use native.Mathlib.Omega.{arith}
 use lib.Dec.{eqb, ltb, leb}
 use lib.ListN.{length, take, getD}
 use borrow.Author.Tests.{ltb-true, leb-true, eqb-true}
-use Rattle.lists.specs.Lists.{range, keep, each}
+use Rattle.lists.specs.Lists.{range, keep, all, each}
 use Rattle.board.specs.Geometry.{points, follows, inward, adjoin, neighbours, ringMills, crossMills, mills}
 use Rattle.board.specs.Tables.{millPoint}
 use Rattle.lists.proofs.Table.{every-at}
 use Rattle.lists.proofs.Keep.{keep-below}
-use Rattle.lists.proofs.Members.{keep-member, range-member, getD-member}
+use Rattle.lists.proofs.Members.{keep-member, range-member, member-range, getD-member}
+use Rattle.lists.proofs.Tests.{all-member}
+
+-- the points of a board, and the neighbours of one
+pub points-are : (rings : ℕ) → points rings ≡ range 0 (8 * rings)
+unfolding points
+points-are rings = refl
+
+pub point-low : (rings p : ℕ) → List·Memᴰ p (points rings) → p < 8 * rings
+unfolding points
+point-low rings p m = omega (arith, range-member (8 * rings) 0 m .1)
+
+pub low-point : (rings p : ℕ) → p < 8 * rings → List·Memᴰ p (points rings)
+unfolding points
+low-point rings p h = member-range (8 * rings) 0 p (omega arith) (omega arith)
+
+pub neighbours-are : (rings p : ℕ) → neighbours rings p ≡ keep (λ q. adjoin p q) (points rings)
+unfolding neighbours
+neighbours-are rings p = refl
 
 -- 4, 8 and 16 mills
 pub mill-counts : (length (mills 1) ∷ length (mills 2) ∷ length (mills 3) ∷ []) ≡ 4 ∷ 8 ∷ 16 ∷ []
@@ -90,3 +108,49 @@ neighbour-low p j h =
     let m = keep-member (λ q. adjoin p q) (points 3) (getD-member (neighbours 3 p) j h) in
     let r : getD (neighbours 3 p) j 0 < 0 + 24 = range-member 24 0 (m .0) .1 in
     subst (λ (n : ℕ). getD (neighbours 3 p) j 0 < n) (zero-add 24) r
+
+-- how many mills a board has
+pub all-mills : (rings : ℕ) → rings ≡ 3 → 16 ≡ length (mills rings)
+unfolding mills ringMills crossMills
+all-mills rings e = rw e refl
+
+pub ring-mills : (rings : ℕ) → 1 ≤ rings → rings ≤ 3 → (rings ≡ 3 → ⊥) → 4 * rings ≡ length (mills rings)
+unfolding mills ringMills crossMills
+ring-mills zero l h n = absurd (omega arith)
+ring-mills (suc zero) l h n = refl
+ring-mills (suc (suc zero)) l h n = refl
+ring-mills (suc (suc (suc zero))) l h n = absurd (n refl)
+ring-mills (suc (suc (suc (suc r)))) l h n = absurd (omega arith)
+
+-- the points of a mill are points of the board
+pub mill-low : (rings : ℕ) → rings ≤ 3 → (l : List ℕ) → List·Memᴰ l (mills rings) → (q : ℕ) → List·Memᴰ q l → q < 8 * rings
+unfolding mills ringMills crossMills
+mill-low rings h l m q k =
+    ltb-true q (8 * rings) (all-member (λ x. ltb x (8 * rings)) l (all-member (λ x. all (λ y. ltb y (8 * rings)) x) (mills rings) (go rings h) l m) q k)
+  where
+    go : (rings : ℕ) → rings ≤ 3 → all (λ x. all (λ y. ltb y (8 * rings)) x) (mills rings) ≡ true
+    go zero h = refl
+    go (suc zero) h = refl
+    go (suc (suc zero)) h = refl
+    go (suc (suc (suc zero))) h = refl
+    go (suc (suc (suc (suc r)))) h = absurd (omega arith)
+
+-- three different points
+abbrev pub proper : List ℕ → Bool
+proper [] = false
+proper (a ∷ []) = false
+proper (a ∷ b ∷ []) = false
+proper (a ∷ b ∷ c ∷ []) = not (eqb b a) && (not (eqb c a) && not (eqb c b))
+proper (a ∷ b ∷ c ∷ d ∷ l) = false
+
+-- every mill has three different points
+pub mill-proper : (rings : ℕ) → rings ≤ 3 → (l : List ℕ) → List·Memᴰ l (mills rings) → proper l ≡ true
+unfolding mills ringMills crossMills
+mill-proper rings h l m = all-member proper (mills rings) (go rings h) l m
+  where
+    go : (rings : ℕ) → rings ≤ 3 → all proper (mills rings) ≡ true
+    go zero h = refl
+    go (suc zero) h = refl
+    go (suc (suc zero)) h = refl
+    go (suc (suc (suc zero))) h = refl
+    go (suc (suc (suc (suc r)))) h = absurd (omega arith)

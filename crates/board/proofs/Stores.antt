@@ -13,6 +13,7 @@ use Rattle.lists.specs.Lists.{range, keep}
 use Rattle.lists.proofs.Members.{range-member}
 use Rattle.lists.proofs.Tests.{keep-same}
 use Rattle.sets.specs.Sets.{bit, has, with, without, elements}
+use Rattle.sets.proofs.Elements.{elements-are}
 use Rattle.sets.proofs.Laws.{same-set, bit-with-same, bit-with-other, bit-without-same, bit-without-other, with-lt, without-le}
 use Rattle.board.specs.Board.{Values, digit, setOf}
 use Rattle.board.proofs.Sides.{set-lt, bit-set}
@@ -26,9 +27,9 @@ pub has-set : (v : ℕ) (b : List ℕ) (p : ℕ) → p < length b → has (setOf
 has-set v b p h = ap (λ (d : ℕ). eqb d 1) (bit-set v b p h) ∙ digit-is (eqb (getD b p 0) v)
 
 pub elements-set : (v : ℕ) (b : List ℕ) → elements (length b) (setOf v b) ≡ keep (λ p. eqb (getD b p 0) v) (range 0 (length b))
-unfolding elements
 elements-set v b =
-    keep-same (λ p. has (setOf v b) p) (λ p. eqb (getD b p 0) v) (range 0 (length b))
+    elements-are (length b) (setOf v b)
+    ∙ keep-same (λ p. has (setOf v b) p) (λ p. eqb (getD b p 0) v) (range 0 (length b))
     (λ p m. has-set v b p (omega (arith, range-member (length b) 0 m .1)))
 
 -- a store of v puts the point into the set of v, any other takes it out

@@ -73,16 +73,3 @@ module _ (p j : ℕ) (hp : p < 24) (hj : j < 2) where
     pub mask-present : number < length (mills rings)
         → setFrom (getD (mills 3) number []) ≡ setFrom (getD (millsThrough rings p) j [])
     mask-present a = rw (lt-leb (length (mills rings)) number a) at (mask-is rings l h)
-
--- how many mills a board has
-pub all-mills : (rings : ℕ) → rings ≡ 3 → 16 ≡ length (mills rings)
-unfolding mills ringMills crossMills
-all-mills rings e = rw e refl
-
-pub ring-mills : (rings : ℕ) → 1 ≤ rings → rings ≤ 3 → (rings ≡ 3 → ⊥) → 4 * rings ≡ length (mills rings)
-unfolding mills ringMills crossMills
-ring-mills zero l h n = absurd (omega arith)
-ring-mills (suc zero) l h n = refl
-ring-mills (suc (suc zero)) l h n = refl
-ring-mills (suc (suc (suc zero))) l h n = absurd (n refl)
-ring-mills (suc (suc (suc (suc r)))) l h n = absurd (omega arith)

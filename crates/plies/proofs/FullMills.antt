@@ -1,7 +1,7 @@
 -- Mills on sets: a mill is full where a set has three points in common with it, and a point has two mills at the most. Assumes nothing.
 use mathlib.Core.Path.{_≡_, refl, sym, ap, ap₂, _∙_}
 use mathlib.Core.Bool.{Bool, true, false, not, _&&_, _||_, false≢true}
-use mathlib.Core.List.{List, [], _∷_, List·Memᴰ}
+use mathlib.Core.List.{List, [], _∷_}
 use Prim.Native.Nat.{ℕ, zero, suc, _^_, _≤_, _<_}
 use native.Mathlib.Omega.{arith}
 use lib.Bits.{bitAnd, and-le-l, and-zero-r}
@@ -12,45 +12,27 @@ use borrow.Author.Tests.{leb-true, eqb-false, not-true}
 use Rattle.lists.specs.Lists.{all, any, member}
 use Rattle.lists.proofs.Table.{every, every-at}
 use Rattle.lists.proofs.Members.{keep-member}
-use Rattle.lists.proofs.Tests.{all-member, any-both, any-same, and-left, and-right}
-use Rattle.sets.specs.Sets.{has, members, shared, with, withAll, setFrom}
+use Rattle.lists.proofs.Tests.{any-both, any-same, and-left, and-right}
+use Rattle.sets.specs.Sets.{has, members, shared, with, setFrom}
 use Rattle.sets.proofs.Laws.{members-all, ones-three, three-members}
+use Rattle.sets.proofs.Elements.{from-none, from-three}
 use Rattle.board.specs.Geometry.{ringMills, crossMills, mills}
+use Rattle.board.proofs.Geometry.{proper, mill-proper}
 use Rattle.rules.specs.Ply.{inMill}
+use Rattle.rules.proofs.Mills.{in-mill-any}
 use Rattle.plies.specs.Masks.{millsThrough}
-
--- three different points
-abbrev proper : List ℕ → Bool
-proper [] = false
-proper (a ∷ []) = false
-proper (a ∷ b ∷ []) = false
-proper (a ∷ b ∷ c ∷ []) = not (eqb b a) && (not (eqb c a) && not (eqb c b))
-proper (a ∷ b ∷ c ∷ d ∷ l) = false
-
--- every mill has three different points
-mill-proper : (rings : ℕ) → rings ≤ 3 → (l : List ℕ) → List·Memᴰ l (mills rings) → proper l ≡ true
-unfolding mills ringMills crossMills
-mill-proper rings h l m = all-member proper (mills rings) (go rings h) l m
-  where
-    go : (rings : ℕ) → rings ≤ 3 → all proper (mills rings) ≡ true
-    go zero h = refl
-    go (suc zero) h = refl
-    go (suc (suc zero)) h = refl
-    go (suc (suc (suc zero))) h = refl
-    go (suc (suc (suc (suc r)))) h = absurd (omega arith)
 
 -- a set has all three points of a mill
 abbrev pub full : ℕ → List ℕ → Bool
 full s l = eqb (shared s (setFrom l)) 3
 
 full-none : (s : ℕ) → s < 2 ^ 32 → full s [] ≡ false
-unfolding setFrom withAll ones
+unfolding ones
 full-none s h =
-    let z : bitAnd s 0 ≡ 0 = and-zero-r s in
+    let z : bitAnd s (setFrom []) ≡ 0 = ap (bitAnd s) from-none ∙ and-zero-r s in
     ap (λ (x : ℕ). eqb x 3) (ap (λ (x : ℕ). members x 32) z ∙ members-all 0 32 (omega arith))
 
 full-three : (s : ℕ) → s < 2 ^ 32 → (l : List ℕ) → proper l ≡ true → full s l ≡ all (λ p. has s p) l
-unfolding setFrom withAll
 full-three s h [] e = absurd (false≢true e)
 full-three s h (a ∷ []) e = absurd (false≢true e)
 full-three s h (a ∷ b ∷ []) e = absurd (false≢true e)
@@ -60,7 +42,8 @@ full-three s h (a ∷ b ∷ c ∷ []) e =
     let ca = eqb-false c a (not-true (eqb c a) (and-left (not (eqb c a)) (not (eqb c b)) k)) in
     let cb = eqb-false c b (not-true (eqb c b) (and-right (not (eqb c a)) (not (eqb c b)) k)) in
     let m : ℕ = with (with (with 0 a) b) c in
-    ap (λ (x : ℕ). eqb x 3) (members-all (bitAnd s m) 32 (omega (arith, and-le-l s m)) ∙ ones-three s a b c ba ca cb)
+    ap (λ (t : ℕ). eqb (shared s t) 3) (from-three a b c)
+    ∙ ap (λ (x : ℕ). eqb x 3) (members-all (bitAnd s m) 32 (omega (arith, and-le-l s m)) ∙ ones-three s a b c ba ca cb)
     ∙ three-members s a b c ∙ three (has s a) (has s b) (has s c)
   where
     three : (x y z : Bool) → (x && (y && z)) ≡ elim x [ true ↦ elim y [ true ↦ elim z [ true ↦ true | false ↦ false ] | false ↦ false ] | false ↦ false ]
@@ -91,12 +74,12 @@ two-mills rings p h l = go rings h
 -- so a set's point stands in a mill where one of its two is full
 pub in-mill-is : (rings s p : ℕ) → rings ≤ 3 → s < 2 ^ 32 → p < 24
     → (full s (getD (millsThrough rings p) 0 []) || full s (getD (millsThrough rings p) 1 [])) ≡ inMill rings (λ q. has s q) p
-unfolding inMill millsThrough
+unfolding millsThrough
 in-mill-is rings s p h w l =
     either (millsThrough rings p) (two-mills rings p h l)
     ∙ any-same (full s) (λ mill. all (λ q. has s q) mill) (millsThrough rings p)
     (λ x m. full-three s w x (mill-proper rings h x (keep-member (λ mill. member p mill) (mills rings) m .0)))
-    ∙ sym (any-both (λ mill. member p mill) (λ mill. all (λ q. has s q) mill) (mills rings))
+    ∙ sym (in-mill-any rings (λ q. has s q) p ∙ any-both (λ mill. member p mill) (λ mill. all (λ q. has s q) mill) (mills rings))
   where
     either : (ls : List (List ℕ)) → length ls ≤ 2 → (full s (getD ls 0 []) || full s (getD ls 1 [])) ≡ any (full s) ls
     either [] k = ap₂ _||_ (full-none s w) (full-none s w)

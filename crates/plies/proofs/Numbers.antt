@@ -1,13 +1,12 @@
 -- A move number, tested part by part on a position's sets, and the sets after the move. Assumes nothing.
 use mathlib.Core.Path.{_≡_, refl, sym, ap, ap₂, subst, _∙_}
 use mathlib.Core.Bool.{true}
-use mathlib.Core.List.{List, [], _∷_, map, List·Memᴰ}
+use mathlib.Core.List.{List, List·Memᴰ}
 use mathlib.Core.Logic.{_⊎_, inl, inr, ⊎-elim}
-use Prim.Native.Nat.{ℕ, zero, suc, _+_, _*_, _^_, _<_}
+use Prim.Native.Nat.{ℕ, _+_, _*_, _^_, _<_}
 use native.Mathlib.Omega.{arith}
 use lib.Dec.{eqb}
 use lib.ListN.{length}
-use borrow.Author.Tests.{eq-eqb, ne-eqb}
 use Rattle.lists.specs.Lists.{member}
 use Rattle.lists.proofs.Tests.{is-member, member-is}
 use Rattle.sets.specs.Sets.{bit, with, without, setFrom}
@@ -18,21 +17,12 @@ use Rattle.board.specs.Board.{Values, digit, setOf, positionOf, boardOf}
 use Rattle.board.proofs.Sides.{length-board, board-values, bit-set, position-sides}
 use Rattle.board.proofs.Stores.{set-without}
 use Rattle.board.proofs.OneToOne.{mover-set, opponent-set, mover-at, mover-bit}
-use Rattle.rules.specs.Ply.{targets, slide, removable, noRemoval, removals, fromOf, toOf, removedOf, moves, remove, exchange, afterPly}
+use Rattle.rules.specs.Ply.{targets, slide, removable, removals, fromOf, toOf, removedOf, moves, remove, afterPly}
 use Rattle.plies.specs.Positions.{Placed}
 use Rattle.rules.proofs.Listed.{Move, move-of, of-move, removable-takes, target-of, of-target, target-vacant}
-use Rattle.rules.proofs.Leads.{Removed, listed-parts, removed-of, removed-before}
-use Rattle.rules.proofs.OnSets.{slide-mover, slide-opponent}
+use Rattle.rules.proofs.Leads.{Removed, listed-parts, removed-of, removed-before, after-parts, remove-none, remove-one}
+use Rattle.rules.proofs.OnSets.{slide-mover, slide-opponent, exchange-sets}
 use Rattle.plies.proofs.OnPositions.{opponent-small}
-
--- the sides change names, and so do their sets
-pub exchange-sets : (b : List ℕ) → Values b → (setOf 1 (map (λ v. exchange v) b) ≡ setOf 2 b) × (setOf 2 (map (λ v. exchange v) b) ≡ setOf 1 b)
-unfolding exchange setOf
-exchange-sets [] h = (refl, refl)
-exchange-sets (zero ∷ b) h = let s = exchange-sets b (h .1) in (ap (λ (x : ℕ). 0 + 2 * x) (s .0), ap (λ (x : ℕ). 0 + 2 * x) (s .1))
-exchange-sets (suc zero ∷ b) h = let s = exchange-sets b (h .1) in (ap (λ (x : ℕ). 0 + 2 * x) (s .0), ap (λ (x : ℕ). 1 + 2 * x) (s .1))
-exchange-sets (suc (suc zero) ∷ b) h = let s = exchange-sets b (h .1) in (ap (λ (x : ℕ). 1 + 2 * x) (s .0), ap (λ (x : ℕ). 0 + 2 * x) (s .1))
-exchange-sets (suc (suc (suc v)) ∷ b) h = absurd (omega arith)
 
 module _ (rings : ℕ) (position : Position) (placed : Placed rings position) (n : ℕ) where
   abbrev board : List ℕ
@@ -112,32 +102,29 @@ module _ (rings : ℕ) (position : Position) (placed : Placed rings position) (n
     removed = removed-of rule removable-takes rings (placed .small) board values whole (fromOf n) (toOf n) (removedOf n) move
 
     removed-sets : (r : ℕ) → Removed slid r → (setOf 1 (remove slid r) ≡ setOf 1 slid) × (setOf 2 (remove slid r) ≡ without (setOf 2 slid) r)
-    unfolding remove
     removed-sets r (inl q) =
         let z : bit (setOf 2 slid) r ≡ 0 = ⊎-elim (λ a. a) (λ a. absurd (omega (arith, q, bit-low 24 (setOf 2 slid) r small a))) (bit-cases (setOf 2 slid) r) in
-        rw (eq-eqb r noRemoval q, remove) (refl, sym (without-absent (setOf 2 slid) r z))
+        rw (remove-none slid r q) (refl, sym (without-absent (setOf 2 slid) r z))
       where
         small : setOf 2 slid < 2 ^ 24
         small = rw slid-opponent (opponent-small rings position placed)
     removed-sets r (inr h) =
-        rw (ne-eqb r noRemoval (λ q. omega (arith, h .1)), remove) (
+        rw (remove-one slid r (λ q. omega (arith, h .1))) (
           set-without 1 slid r 0 (h .0) refl ∙ without-absent (setOf 1 slid) r (bit-set 1 slid r (h .0) ∙ ap (λ (x : ℕ). digit (eqb x 1)) (h .2)),
           set-without 2 slid r 0 (h .0) refl,
         )
 
     -- the opponent's stones, less the one removed, are the next mover's
-    pub after-sets : positionOf (afterPly board n) ≡ record {
-      mover = without (position .opponent) (removedOf n);
-      opponent = with
-          (without (position .mover) (fromOf n)) (toOf n);
-    }
-    unfolding afterPly
+    pub after-sets : positionOf (afterPly board n)
+        ≡ record { mover = without (position .opponent) (removedOf n); opponent = with (without (position .mover) (fromOf n)) (toOf n) }
     after-sets =
         let w = removed-before board (fromOf n) (toOf n) (removedOf n) lf lt (move .own) (move .vacant) values removed in
         let x = exchange-sets (remove slid (removedOf n)) (w .values) in
         let r = removed-sets (removedOf n) removed in
+        let a = after-parts board n (fromOf n) (toOf n) (removedOf n) (record { from-is = refl; to-is = refl; removed-is = refl }) in
         position-sides (afterPly board n)
-        ∙ ap₂ (λ (a c : ℕ). sides a c) (x .0 ∙ r .1 ∙ ap (λ (s : ℕ). without s (removedOf n)) slid-opponent) (x .1 ∙ r .0 ∙ slid-mover)
+        ∙ ap₂ (λ (m o : ℕ). sides m o) (ap (setOf 1) a ∙ x .0 ∙ r .1 ∙ ap (λ (s : ℕ). without s (removedOf n)) slid-opponent)
+        (ap (setOf 2) a ∙ x .1 ∙ r .0 ∙ slid-mover)
       where
         sides : ℕ → ℕ → Position
-        sides a c = record { mover = a; opponent = c }
+        sides m o = record { mover = m; opponent = o }

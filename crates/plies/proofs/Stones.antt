@@ -18,7 +18,7 @@ use Rattle.board.proofs.Sides.{length-board}
 use Rattle.board.proofs.OneToOne.{mover-set, vacant-bits}
 use Rattle.rules.specs.Ply.{targets, slide, removable, removals, moveNumber, slideMoves, stoneMoves, moves}
 use Rattle.plies.specs.Positions.{Placed, Vacant}
-use Rattle.rules.proofs.Listed.{removable-takes, target-vacant}
+use Rattle.rules.proofs.Listed.{removable-takes, target-vacant, moves-are}
 use Rattle.rules.proofs.Rises.{removable-rising, removals-rising, removal-low, targets-rising}
 use Rattle.rules.proofs.OnSets.{holding-set}
 
@@ -73,9 +73,8 @@ module _ (rings : ℕ) (position : Position) (placed : Placed rings position) wh
 
   -- the moves of a position, over the mover's set
   pub moves-given : moves rule rings board ≡ given fromStone (position .mover)
-  unfolding moves
   moves-given =
-      ap (each fromStone) (holding-set rings (placed .small) board (length-board (8 * rings) position) 1
+      moves-are rule rings board ∙ ap (each fromStone) (holding-set rings (placed .small) board (length-board (8 * rings) position) 1
       ∙ ap (elements 32) (mover-set (8 * rings) position (placed .on)))
 
   pub stone-given : (from tos : ℕ) → tos ≡ setFrom (targets rings board from) → stoneMoves rule rings board from (elements 32 tos) ≡ fromStone from

@@ -1,6 +1,6 @@
 -- How many moves a board can have: 324 at the most, nine stones of four neighbours or three of all vacant points, each with up to nine removals.
 -- Assumes nothing.
-use mathlib.Core.Path.{_≡_, refl, ap, subst, _∙_}
+use mathlib.Core.Path.{_≡_, refl, sym, ap, subst, _∙_}
 use mathlib.Core.Bool.{Bool, true, false, not, _||_}
 use mathlib.Core.List.{List, [], _∷_, List·Memᴰ}
 use Prim.Native.Nat.{ℕ, _+_, _-_, _*_, _≤_, _<_}
@@ -19,7 +19,7 @@ use Rattle.board.specs.Geometry.{points, adjoin, neighbours}
 use Rattle.board.specs.Board.{Values, count, setOf}
 use Rattle.board.proofs.Sides.{members-count}
 use Rattle.board.proofs.Counts.{count-all}
-use Rattle.board.proofs.Geometry.{neighbours-within, neighbours-few}
+use Rattle.board.proofs.Geometry.{neighbours-are, neighbours-within, neighbours-few}
 use Rattle.rules.specs.Ply.{holds, holding, inMill, targets, slide, unshielded, removable, noRemoval, removals, moveNumber, slideMoves, stoneMoves, moves}
 use Rattle.rules.proofs.Listed.{holding-is, target-vacant}
 use Rattle.rules.proofs.Leads.{slide-length, slide-counts}
@@ -69,11 +69,12 @@ module _ (rings : ℕ) (small : rings ≤ 3) where
 
     -- else four at the most
     near-few : (count 1 b ≡ 3 → ⊥) → (from : ℕ) → from < 24 → length (targets rings b from) ≤ 4
-    unfolding targets holding neighbours
+    unfolding targets holding
     near-few n from h =
         let same : keep (λ to. eqb (count 1 b) 3 || adjoin from to) (points rings) ≡ neighbours rings from =
         keep-same (λ to. eqb (count 1 b) 3 || adjoin from to) (λ to. adjoin from to) (points rings)
-        (λ to i. ap (λ (x : Bool). x || adjoin from to) (ne-eqb (count 1 b) 3 n)) in
+        (λ to i. ap (λ (x : Bool). x || adjoin from to) (ne-eqb (count 1 b) 3 n))
+        ∙ sym (neighbours-are rings from) in
         omega (
           arith,
           ap length (keep-keep (λ to. eqb (count 1 b) 3 || adjoin from to) (holds b 0) (points rings) ∙ ap (keep (holds b 0)) same),

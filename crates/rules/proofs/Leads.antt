@@ -1,20 +1,20 @@
 -- Where a ply leads, for any rule of removal that names opposing stones: to a board of the same points whose counts are (o, m) without a removal and
 -- (o - 1, m) with one. So a tablebase is closed under plies, but for movers with two stones. Assumes nothing.
 use mathlib.Core.Path.{_≡_, refl, sym, ap, subst, _∙_}
+use mathlib.Core.Bool.{Bool, true, false}
 use mathlib.Core.List.{List, [], _∷_, map, List·Memᴰ}
 use mathlib.Core.Logic.{_⊎_, inl, inr}
 use Prim.Native.Nat.{ℕ, zero, suc, _+_, _*_, _≤_, _<_}
 use native.Mathlib.Nat.{not-suc-le-zero, le-of-suc-le-suc}
 use native.Mathlib.Omega.{arith}
 use lib.Dec.{eqb}
-use lib.ListN.{getD, set, length, length-set, length-map}
+use lib.ListN.{getD, set, length, length-set, length-map, List·getD-map}
 use lib.Seq.{getD-set-other}
-use borrow.Author.Tests.{eq-eqb, ne-eqb}
-use Rattle.lists.proofs.Members.{map-member}
+use borrow.Author.Tests.{eqb-true, eqb-false, eq-eqb, ne-eqb}
 use Rattle.board.specs.Board.{Values, count, digit}
 use Rattle.board.proofs.Sides.{more-digit}
 use Rattle.rules.specs.Ply.{slide, noRemoval, moveNumber, fromOf, toOf, removedOf, moves, remove, exchange, afterPly, successors}
-use Rattle.rules.proofs.Listed.{Move, Listed, move-of, removal-cases, TakesOpponent}
+use Rattle.rules.proofs.Listed.{Move, Listed, move-of, removal-cases, successor-of, TakesOpponent}
 
 -- a store moves one unit from the old value's count to the new one's
 count-set : (v : ℕ) (b : List ℕ) (p x : ℕ) → p < length b → count v (set b p x) + digit (eqb (getD b p 0) v) ≡ count v b + digit (eqb x v)
@@ -53,10 +53,45 @@ pub record Parts (n from to removed : ℕ) : Type 0 where
 pub parts-of : (n from to removed : ℕ) → to < 32 → removed < 32 → n ≡ moveNumber from to removed → Parts n from to removed
 parts-of n from to removed h l e = record { from-is = omega arith; to-is = omega arith; removed-is = omega arith }
 
+-- the board after a move of these parts
+pub after-parts : (b : List ℕ) (n from to removed : ℕ) → Parts n from to removed → afterPly b n ≡ map (λ v. exchange v) (remove (slide b from to) removed)
+unfolding afterPly
+after-parts b n from to removed q = rw (q .from-is, q .to-is, q .removed-is)
+
+-- each step of a ply
+pub slide-is : (b : List ℕ) (from to : ℕ) → slide b from to ≡ set (set b from 0) to 1
+unfolding slide
+slide-is b from to = refl
+
+pub remove-none : (b : List ℕ) (r : ℕ) → r ≡ noRemoval → remove b r ≡ b
+unfolding remove
+remove-none b r e = rw (eq-eqb r noRemoval e, remove)
+
+pub remove-one : (b : List ℕ) (r : ℕ) → (r ≡ noRemoval → ⊥) → remove b r ≡ set b r 0
+unfolding remove
+remove-one b r n = rw (ne-eqb r noRemoval n, remove)
+
+pub exchange-at : (b : List ℕ) (p : ℕ) → getD (map (λ v. exchange v) b) p 0 ≡ exchange (getD b p 0)
+unfolding exchange
+exchange-at b p = List·getD-map (λ v. exchange v) b p 0
+
 -- a slide keeps the points
 pub slide-length : (b : List ℕ) (from to : ℕ) → length (slide b from to) ≡ length b
 unfolding slide
 slide-length b from to = length-set (set b from 0) to 1 ∙ length-set b from 0
+
+pub after-length : (b : List ℕ) (n : ℕ) → length (afterPly b n) ≡ length b
+unfolding afterPly
+after-length b n = length-map (remove slid (removedOf n)) (λ v. exchange v) ∙ go (eqb (removedOf n) noRemoval) refl
+  where
+    slid : List ℕ
+    slid = slide b (fromOf n) (toOf n)
+
+    go : (t : Bool) → eqb (removedOf n) noRemoval ≡ t → length (remove slid (removedOf n)) ≡ length b
+    go true e = ap length (remove-none slid (removedOf n) (eqb-true (removedOf n) noRemoval e)) ∙ slide-length b (fromOf n) (toOf n)
+    go false e =
+        ap length (remove-one slid (removedOf n) (eqb-false (removedOf n) noRemoval e)) ∙ length-set slid (removedOf n) 0
+        ∙ slide-length b (fromOf n) (toOf n)
 
 -- and both counts
 module _ (b : List ℕ) (from to : ℕ) (hf : from < length b) (ht : to < length b) (own : getD b from 0 ≡ 1) (vacant : getD b to 0 ≡ 0) where
@@ -151,14 +186,13 @@ module _ (rule : ℕ → List ℕ → List ℕ) (takes : TakesOpponent rule) (ri
       (removed-low (slide b (l .from) (l .to)) (l .removed) (removed-of (l .from) (l .to) (l .removed) (l .move))) (l .number)
 
   pub ply-leads : (n : ℕ) → List·Memᴰ n (moves rule rings b) → Leads b (afterPly b n) (removedOf n)
-  unfolding afterPly
   ply-leads n i = go (move-of rule rings b n i)
     where
       go : Listed rule rings b n → Leads b (afterPly b n) (removedOf n)
       go l =
           let q = listed-parts n l in
           let m = l .move in
-          rw (q .from-is, q .to-is, q .removed-is)
+          rw (after-parts b n (l .from) (l .to) (l .removed) q, q .removed-is)
           (exchanged b (remove (slide b (l .from) (l .to)) (l .removed)) (l .removed)
           (removed-before b (l .from) (l .to) (l .removed) (omega (arith, m .from-low)) (omega (arith, m .to-low)) (m .own) (m .vacant) v
           (removed-of (l .from) (l .to) (l .removed) m)))
@@ -183,9 +217,8 @@ pub record Reached (rings k : ℕ) (b : List ℕ) : Type 0 where
 -- every successor of a position of a tablebase is in that tablebase, or has a mover with two stones
 pub successor-reached : (rule : ℕ → List ℕ → List ℕ) → TakesOpponent rule → (rings k : ℕ) → rings ≤ 3 → (b : List ℕ) → Reached rings k b
     → 3 ≤ count 1 b → (c : List ℕ) → List·Memᴰ c (successors rule rings b) → Reached rings k c
-unfolding successors
 successor-reached rule takes rings k small b w three c m =
-    let a = map-member (λ n. afterPly b n) (moves rule rings b) m in
+    let a = successor-of rule rings b c m in
     subst (λ (x : List ℕ). Reached rings k x) (sym (a .2))
     (go (afterPly b (a .0)) (removedOf (a .0)) (ply-leads rule takes rings small b (w .values) (w .points) (a .0) (a .1)))
   where

@@ -1,30 +1,30 @@
 -- A listed move, taken apart and put together: the stone, where it goes, and what it removes. Later proofs on plies go by this and not by the
 -- lists. Assumes nothing.
-use mathlib.Core.Path.{_≡_, refl}
-use mathlib.Core.Bool.{Bool, true, false, _||_}
+use mathlib.Core.Path.{_≡_, refl, subst}
+use mathlib.Core.Bool.{Bool, true, false, not, _||_}
 use mathlib.Core.List.{List, [], _∷_, List·Memᴰ, List·Memᴰ·eq-of-singleton}
 use mathlib.Core.Logic.{_⊎_, inl, inr, ⊎-elim}
 use Prim.Native.Nat.{ℕ, _*_, _<_}
-use native.Mathlib.Omega.{arith}
 use lib.Dec.{eqb}
 use lib.ListN.{getD}
 use borrow.Author.Tests.{eqb-true, eq-eqb}
-use Rattle.lists.proofs.Members.{keep-member, member-keep, each-member, member-each, map-member, member-map, range-member, member-range, orElse-cases}
+use Rattle.lists.specs.Lists.{each, orElse}
+use Rattle.lists.proofs.Members.{keep-member, member-keep, each-member, member-each, map-member, member-map, orElse-cases}
 use Rattle.board.specs.Geometry.{points, adjoin}
 use Rattle.board.specs.Board.{count}
-use Rattle.rules.specs.Ply.{holds, holding, inMill, targets, slide, unshielded, removable, noRemoval, removals, moveNumber, moves}
+use Rattle.board.proofs.Geometry.{point-low, low-point}
+use Rattle.rules.specs.Ply.{holds, holding, inMill, targets, slide, unshielded, removable, noRemoval, removals, moveNumber, stoneMoves, moves, afterPly, successors}
 
 module _ (rings : ℕ) (b : List ℕ) (v p : ℕ) where
   pub holding-is : List·Memᴰ p (holding rings b v) → (p < 8 * rings) × (getD b p 0 ≡ v)
-  unfolding holding points
+  unfolding holding
   holding-is m =
       let s = keep-member (holds b v) (points rings) m in
-      let r = range-member (8 * rings) 0 (s .0) in
-      (omega (arith, r .1), eqb-true (getD b p 0) v (s .1))
+      (point-low rings p (s .0), eqb-true (getD b p 0) v (s .1))
 
   pub is-holding : p < 8 * rings → getD b p 0 ≡ v → List·Memᴰ p (holding rings b v)
-  unfolding holding points
-  is-holding h e = member-keep (holds b v) (points rings) (member-range (8 * rings) 0 p (omega arith) (omega arith)) (eq-eqb (getD b p 0) v e)
+  unfolding holding
+  is-holding h e = member-keep (holds b v) (points rings) (low-point rings p h) (eq-eqb (getD b p 0) v e)
 
 -- a stone goes to a vacant point
 pub target-vacant : (rings : ℕ) (b : List ℕ) (from to : ℕ) → List·Memᴰ to (targets rings b from) → (to < 8 * rings) × (getD b to 0 ≡ 0)
@@ -82,25 +82,60 @@ module _ (rule : ℕ → List ℕ → List ℕ) (rings : ℕ) (b : List ℕ) whe
       (member-each _ (targets rings b from) to (of-target rings b from to (v .to-low) (v .vacant) (v .reach))
       (member-map (λ r. moveNumber from to r) (removals rule rings (slide b from to) to) (v .removal)))
 
+  -- what a slide may remove, by whether it closes a mill
+  pub removals-without : (to : ℕ) → inMill rings (holds b 1) to ≡ false → removals rule rings b to ≡ noRemoval ∷ []
+  unfolding removals
+  removals-without to e = rw (e, removals)
+
+  pub removals-with : (to : ℕ) → inMill rings (holds b 1) to ≡ true → removals rule rings b to ≡ orElse (rule rings b) (noRemoval ∷ [])
+  unfolding removals
+  removals-with to e = rw (e, removals)
+
   -- a removal is none, or one that the rule names
   pub removal-cases : (to : ℕ) {r : ℕ} → List·Memᴰ r (removals rule rings b to) → (r ≡ noRemoval) ⊎ List·Memᴰ r (rule rings b)
-  unfolding removals
-  removal-cases to {r} m = go (inMill rings (holds b 1) to) refl m
+  removal-cases to {r} m = go (inMill rings (holds b 1) to) refl
     where
-      go : (c : Bool) → inMill rings (holds b 1) to ≡ c → List·Memᴰ r (removals rule rings b to) → (r ≡ noRemoval) ⊎ List·Memᴰ r (rule rings b)
-      go true e k = ⊎-elim (λ i. inr i) (λ i. inl (List·Memᴰ·eq-of-singleton i)) (orElse-cases (rule rings b) (noRemoval ∷ []) (rw (e, removals) at k))
-      go false e k = inl (List·Memᴰ·eq-of-singleton (rw (e, removals) at k))
+      go : (c : Bool) → inMill rings (holds b 1) to ≡ c → (r ≡ noRemoval) ⊎ List·Memᴰ r (rule rings b)
+      go true e =
+          ⊎-elim (λ i. inr i) (λ i. inl (List·Memᴰ·eq-of-singleton i))
+          (orElse-cases (rule rings b) (noRemoval ∷ []) (subst (λ (l : List ℕ). List·Memᴰ r l) (removals-with to e) m))
+      go false e = inl (List·Memᴰ·eq-of-singleton (subst (λ (l : List ℕ). List·Memᴰ r l) (removals-without to e) m))
+
+  -- the list, stone by stone
+  pub moves-are : moves rule rings b ≡ each (λ from. stoneMoves rule rings b from (targets rings b from)) (holding rings b 1)
+  unfolding moves
+  moves-are = refl
+
+  -- a successor is the board after a listed move
+  pub successor-of : (c : List ℕ) → List·Memᴰ c (successors rule rings b) → (n : ℕ) × List·Memᴰ n (moves rule rings b) × (c ≡ afterPly b n)
+  unfolding successors
+  successor-of c m = map-member (λ n. afterPly b n) (moves rule rings b) m
+
+  pub of-successor : (n : ℕ) → List·Memᴰ n (moves rule rings b) → List·Memᴰ (afterPly b n) (successors rule rings b)
+  unfolding successors
+  of-successor n m = member-map (λ n. afterPly b n) (moves rule rings b) m
 
 -- a rule of removal names opposing stones on the board
 abbrev pub TakesOpponent : (ℕ → List ℕ → List ℕ) → Type 0
 TakesOpponent rule = (rings : ℕ) (b : List ℕ) (r : ℕ) → List·Memᴰ r (rule rings b) → (r < 8 * rings) × (getD b r 0 ≡ 2)
 
-unshielded-takes : TakesOpponent (λ rings b. unshielded rings b)
+-- who stands outside any mill, and who may be removed by document 01's rule
+pub unshielded-is : (rings : ℕ) (b : List ℕ) (r : ℕ) → List·Memᴰ r (unshielded rings b)
+    → List·Memᴰ r (holding rings b 2) × (not (inMill rings (holds b 2) r) ≡ true)
 unfolding unshielded
-unshielded-takes rings b r m = holding-is rings b 2 r (keep-member _ (holding rings b 2) m .0)
+unshielded-is rings b r m = keep-member (λ p. not (inMill rings (holds b 2) p)) (holding rings b 2) m
 
--- document 01's rule does
-pub removable-takes : TakesOpponent (λ rings b. removable rings b)
+pub is-unshielded : (rings : ℕ) (b : List ℕ) (r : ℕ) → List·Memᴰ r (holding rings b 2) → not (inMill rings (holds b 2) r) ≡ true
+    → List·Memᴰ r (unshielded rings b)
+unfolding unshielded
+is-unshielded rings b r m e = member-keep (λ p. not (inMill rings (holds b 2) p)) (holding rings b 2) m e
+
+pub removable-are : (rings : ℕ) (b : List ℕ) → removable rings b ≡ orElse (unshielded rings b) (holding rings b 2)
 unfolding removable
+removable-are rings b = refl
+
+-- they are opposing stones
+pub removable-takes : TakesOpponent (λ rings b. removable rings b)
 removable-takes rings b r m =
-    ⊎-elim (λ k. unshielded-takes rings b r k) (λ k. holding-is rings b 2 r k) (orElse-cases (unshielded rings b) (holding rings b 2) m)
+    ⊎-elim (λ k. holding-is rings b 2 r (unshielded-is rings b r k .0)) (λ k. holding-is rings b 2 r k)
+    (orElse-cases (unshielded rings b) (holding rings b 2) (subst (λ (l : List ℕ). List·Memᴰ r l) (removable-are rings b) m))

@@ -2,9 +2,9 @@
 -- work on these. Assumes nothing.
 use mathlib.Core.Path.{_≡_, refl, sym, ap, ap₂, subst, _∙_}
 use mathlib.Core.Bool.{true, false, not, _||_}
-use mathlib.Core.List.{List, [], _∷_, List·Memᴰ}
+use mathlib.Core.List.{List, [], _∷_, map, List·Memᴰ}
 use mathlib.Core.Logic.{_⊎_, inl, inr}
-use Prim.Native.Nat.{ℕ, _*_, _^_, _≤_, _<_, min}
+use Prim.Native.Nat.{ℕ, zero, suc, _+_, _*_, _^_, _≤_, _<_, min}
 use native.Mathlib.Nat.{lt-of-lt-of-le}
 use native.Mathlib.Omega.{arith}
 use lib.Bits.{bitAnd, and-le-l}
@@ -13,17 +13,18 @@ use lib.ListN.{length, getD, set, length-set}
 use lib.Pow.{pow-mono}
 use borrow.Author.Tests.{eq-eqb, ne-eqb}
 use Rattle.lists.specs.Lists.{range, keep, orElse}
-use Rattle.lists.proofs.Members.{keep-member, member-keep, member-range}
+use Rattle.lists.proofs.Members.{keep-member, member-keep}
 use Rattle.lists.proofs.Tests.{keep-same}
-use Rattle.sets.specs.Sets.{bit, has, with, without, elements, withAll, setFrom}
+use Rattle.sets.specs.Sets.{bit, has, with, without, elements, setFrom}
 use Rattle.sets.proofs.Laws.{bit-and, bit-cases, same-set, without-absent}
-use Rattle.sets.proofs.Elements.{elements-is, is-element, elements-more, from-elements, from-lt, bit-from, from-bit, from-first, from-second}
+use Rattle.sets.proofs.Elements.{elements-is, is-element, elements-more, from-elements, from-lt, bit-from, from-bit, from-first, from-second, from-one}
 use Rattle.board.specs.Geometry.{points, adjoin, neighbours}
-use Rattle.board.specs.Board.{count, digit, setOf}
-use Rattle.board.proofs.Sides.{set-lt, bit-set}
+use Rattle.board.specs.Board.{Values, count, digit, setOf}
+use Rattle.board.proofs.Geometry.{points-are, low-point, neighbours-are}
+use Rattle.board.proofs.Sides.{set-lt, bit-set, set-none, set-cons}
 use Rattle.board.proofs.Stores.{has-set, elements-set, set-with, set-without}
-use Rattle.rules.specs.Ply.{holds, holding, inMill, targets, slide, unshielded, removable, noRemoval, removals}
-use Rattle.rules.proofs.Listed.{target-vacant}
+use Rattle.rules.specs.Ply.{holds, holding, inMill, targets, slide, unshielded, removable, noRemoval, removals, exchange}
+use Rattle.rules.proofs.Listed.{target-vacant, removals-without, removals-with, removable-are}
 use Rattle.rules.proofs.Leads.{slide-length}
 use Rattle.rules.proofs.Mills.{in-mill-same}
 
@@ -33,8 +34,9 @@ module _ (rings : ℕ) (small : rings ≤ 3) (b : List ℕ) (whole : length b �
   set-within v = subst (λ (n : ℕ). setOf v b < 2 ^ n) whole (set-lt v b)
 
   pub holding-set : (v : ℕ) → holding rings b v ≡ elements 32 (setOf v b)
-  unfolding holding points
+  unfolding holding
   holding-set v =
+      ap (keep (holds b v)) (points-are rings) ∙
       sym (elements-more (8 * rings) 32 (setOf v b) (set-within v) (omega arith)
       ∙ subst (λ (n : ℕ). elements n (setOf v b) ≡ keep (holds b v) (range 0 n)) whole (elements-set v b))
 
@@ -61,8 +63,7 @@ unshielded-set rings small b whole =
 
 pub removable-set : (rings : ℕ) → rings ≤ 3 → (b : List ℕ) → length b ≡ 8 * rings
     → removable rings b ≡ orElse (unshieldedOf rings (setOf 2 b)) (elements 32 (setOf 2 b))
-unfolding removable
-removable-set rings small b whole = ap₂ orElse (unshielded-set rings small b whole) (holding-set rings small b whole 2)
+removable-set rings small b whole = removable-are rings b ∙ ap₂ orElse (unshielded-set rings small b whole) (holding-set rings small b whole 2)
 
 -- a slide moves one point of the mover's set, and the opponent's set stays
 module _ (b : List ℕ) (from to : ℕ) (hf : from < length b) (ht : to < length b) where
@@ -93,7 +94,7 @@ module _ (rings : ℕ) (small : rings ≤ 3) (b : List ℕ) (whole : length b �
       all-kept (x ∷ l) = rw (eq-eqb (count 1 b) 3 e, keep) (ap (λ (k : List ℕ). x ∷ k) (all-kept l))
 
   pub targets-slide : (count 1 b ≡ 3 → ⊥) → setFrom (targets rings b from) ≡ bitAnd (setOf 0 b) (setFrom (neighbours rings from))
-  unfolding targets neighbours points
+  unfolding targets
   targets-slide n =
       same-set (8 * rings) (setFrom (targets rings b from)) (bitAnd (setOf 0 b) (setFrom (neighbours rings from)))
       (from-lt (8 * rings) (targets rings b from) (λ p m. target-vacant rings b from p m .0))
@@ -103,7 +104,7 @@ module _ (rings : ℕ) (small : rings ≤ 3) (b : List ℕ) (whole : length b �
     where
       kept : (p : ℕ) → p < 8 * rings → bit (setOf 0 b) p ≡ 1 → bit (setFrom (neighbours rings from)) p ≡ 1 → bit (setFrom (targets rings b from)) p ≡ 1
       kept p h v a =
-          let m = from-bit (neighbours rings from) p a in
+          let m = subst (λ (l : List ℕ). List·Memᴰ p l) (neighbours-are rings from) (from-bit (neighbours rings from) p a) in
           bit-from (targets rings b from) p (member-keep (λ to. eqb (count 1 b) 3 || adjoin from to) (holding rings b 0)
           (subst (λ (l : List ℕ). List·Memᴰ p l) (sym (holding-set rings small b whole 0)) (is-element 32 (setOf 0 b) p (omega arith) v))
           (rw (ne-eqb (count 1 b) 3 n) (keep-member (λ q. adjoin from q) (points rings) m .1)))
@@ -116,8 +117,8 @@ module _ (rings : ℕ) (small : rings ≤ 3) (b : List ℕ) (whole : length b �
       near : (p : ℕ) → p < 8 * rings → bit (setFrom (targets rings b from)) p ≡ 1 → bit (setFrom (neighbours rings from)) p ≡ 1
       near p h t =
           let m = keep-member (λ to. eqb (count 1 b) 3 || adjoin from to) (holding rings b 0) (from-bit (targets rings b from) p t) in
-          bit-from (neighbours rings from) p (member-keep (λ q. adjoin from q) (points rings) (member-range (8 * rings) 0 p (omega arith) (omega arith))
-          (rw (ne-eqb (count 1 b) 3 n) at (m .1)))
+          bit-from (neighbours rings from) p (subst (λ (l : List ℕ). List·Memᴰ p l) (sym (neighbours-are rings from))
+          (member-keep (λ q. adjoin from q) (points rings) (low-point rings p h) (rw (ne-eqb (count 1 b) 3 n) at (m .1))))
 
       go : (p : ℕ) → p < 8 * rings → (bit (setFrom (targets rings b from)) p ≡ 0) ⊎ (bit (setFrom (targets rings b from)) p ≡ 1)
           → (bit (setOf 0 b) p ≡ 0) ⊎ (bit (setOf 0 b) p ≡ 1) → (bit (setFrom (neighbours rings from)) p ≡ 0) ⊎ (bit (setFrom (neighbours rings from)) p ≡ 1)
@@ -130,16 +131,13 @@ module _ (rings : ℕ) (small : rings ≤ 3) (b : List ℕ) (whole : length b �
 -- what a slide may remove
 module _ (rule : ℕ → List ℕ → List ℕ) (rings : ℕ) (b : List ℕ) (to : ℕ) where
   pub removals-open : inMill rings (holds b 1) to ≡ false → setFrom (removals rule rings b to) ≡ 2 ^ 31
-  unfolding removals setFrom withAll
-  removals-open e = rw (e, removals)
+  removals-open e = ap setFrom (removals-without rule rings b to e) ∙ from-one noRemoval
 
   pub removals-closed : inMill rings (holds b 1) to ≡ true → (setFrom (rule rings b) ≡ 0 → ⊥) → setFrom (removals rule rings b to) ≡ setFrom (rule rings b)
-  unfolding removals
-  removals-closed e n = rw (e, removals) (from-first (rule rings b) (noRemoval ∷ []) n)
+  removals-closed e n = ap setFrom (removals-with rule rings b to e) ∙ from-first (rule rings b) (noRemoval ∷ []) n
 
   pub removals-idle : inMill rings (holds b 1) to ≡ true → setFrom (rule rings b) ≡ 0 → setFrom (removals rule rings b to) ≡ 2 ^ 31
-  unfolding removals setFrom withAll
-  removals-idle e z = rw (e, removals) (from-second (rule rings b) (noRemoval ∷ []) z)
+  removals-idle e z = ap setFrom (removals-with rule rings b to e) ∙ from-second (rule rings b) (noRemoval ∷ []) z ∙ from-one noRemoval
 
 -- a slide changes nothing of what may be removed
 module _ (rings : ℕ) (small : rings ≤ 3) (b : List ℕ) (whole : length b ≡ 8 * rings) (from to : ℕ) (hf : from < 8 * rings) (ht : to < 8 * rings)
@@ -163,3 +161,20 @@ module _ (rings : ℕ) (small : rings ≤ 3) (b : List ℕ) (whole : length b �
   in-mill-slide =
       in-mill-set rings small (slide b from to) slide-whole 1 to
       ∙ ap (λ (s : ℕ). inMill rings (λ q. has s q) to) (slide-mover b from to lf lt)
+
+one-more : (x y : ℕ) (b : List ℕ) → setOf 1 (map (λ v. exchange v) b) ≡ setOf 2 b → setOf 2 (map (λ v. exchange v) b) ≡ setOf 1 b
+    → digit (eqb y 1) ≡ digit (eqb x 2) → digit (eqb y 2) ≡ digit (eqb x 1)
+    → (setOf 1 (y ∷ map (λ v. exchange v) b) ≡ setOf 2 (x ∷ b)) × (setOf 2 (y ∷ map (λ v. exchange v) b) ≡ setOf 1 (x ∷ b))
+one-more x y b p q d e = (
+  set-cons 1 y (map (λ v. exchange v) b) ∙ ap₂ (λ (i k : ℕ). i + 2 * k) d p ∙ sym (set-cons 2 x b),
+  set-cons 2 y (map (λ v. exchange v) b) ∙ ap₂ (λ (i k : ℕ). i + 2 * k) e q ∙ sym (set-cons 1 x b),
+)
+
+-- the sides change names, and so do their sets
+pub exchange-sets : (b : List ℕ) → Values b → (setOf 1 (map (λ v. exchange v) b) ≡ setOf 2 b) × (setOf 2 (map (λ v. exchange v) b) ≡ setOf 1 b)
+unfolding exchange
+exchange-sets [] h = (set-none 1 ∙ sym (set-none 2), set-none 2 ∙ sym (set-none 1))
+exchange-sets (zero ∷ b) h = let s = exchange-sets b (h .1) in one-more 0 0 b (s .0) (s .1) refl refl
+exchange-sets (suc zero ∷ b) h = let s = exchange-sets b (h .1) in one-more 1 2 b (s .0) (s .1) refl refl
+exchange-sets (suc (suc zero) ∷ b) h = let s = exchange-sets b (h .1) in one-more 2 1 b (s .0) (s .1) refl refl
+exchange-sets (suc (suc (suc v)) ∷ b) h = absurd (omega arith)

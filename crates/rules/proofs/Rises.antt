@@ -1,6 +1,6 @@
 -- "Moves are listed by rising number" (document 01): for any rule of removal that names opposing stones by rising number. So no move is listed
 -- twice. Assumes nothing.
-use mathlib.Core.Path.{_≡_, refl}
+use mathlib.Core.Path.{_≡_, refl, sym, subst}
 use mathlib.Core.Bool.{Bool, true, false}
 use mathlib.Core.List.{List, [], _∷_, List·Memᴰ}
 use mathlib.Core.Logic.{_⊎_, inl, inr}
@@ -10,6 +10,7 @@ use Rattle.lists.specs.Lists.{Rising}
 use Rattle.lists.proofs.Members.{each-member, map-member}
 use Rattle.lists.proofs.Rises.{rising-range, rising-keep, rising-else, rising-add, rising-each}
 use Rattle.board.specs.Geometry.{points}
+use Rattle.board.proofs.Geometry.{points-are}
 use Rattle.rules.specs.Ply.{holds, holding, inMill, targets, slide, unshielded, removable, noRemoval, removals, slideMoves, stoneMoves, moves}
 use Rattle.rules.proofs.Listed.{target-vacant, removal-cases, TakesOpponent}
 
@@ -17,8 +18,9 @@ abbrev pub RisingRule : (ℕ → List ℕ → List ℕ) → Type 0
 RisingRule rule = (rings : ℕ) (b : List ℕ) → Rising (rule rings b)
 
 pub holding-rising : (rings : ℕ) (b : List ℕ) (v : ℕ) → Rising (holding rings b v)
-unfolding holding points
-holding-rising rings b v = rising-keep (holds b v) (points rings) (rising-range (8 * rings) 0)
+unfolding holding
+holding-rising rings b v =
+    rising-keep (holds b v) (points rings) (subst Rising (sym (points-are rings)) (rising-range (8 * rings) 0))
 
 pub targets-rising : (rings : ℕ) (b : List ℕ) (from : ℕ) → Rising (targets rings b from)
 unfolding targets

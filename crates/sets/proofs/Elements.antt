@@ -17,7 +17,11 @@ use Rattle.lists.proofs.Keep.{keep-yes, keep-no}
 use Rattle.lists.proofs.Members.{keep-member, member-keep, range-member, member-range}
 use Rattle.lists.proofs.Rises.{rising-range, rising-keep, rising-same, member-above}
 use Rattle.sets.specs.Sets.{bit, has, with, without, members, elements, lowest, withAll, setFrom}
-use Rattle.sets.proofs.Laws.{bit-zero, bit-suc, bit-cases, bit-le, bit-empty, bit-with-same, bit-with-other, with-lt, bit-without-same, bit-without-other, without-member, same-set}
+use Rattle.sets.proofs.Laws.{bit-zero, bit-suc, bit-cases, bit-le, bit-empty, bit-with-same, bit-with-other, with-lt, with-absent, bit-without-same, bit-without-other, without-member, same-set}
+
+pub elements-are : (n s : ℕ) → elements n s ≡ keep (λ p. has s p) (range 0 n)
+unfolding elements
+elements-are n s = refl
 
 -- a member of a set of the points below n is one of them
 pub bit-low : (n s p : ℕ) → s < 2 ^ n → bit s p ≡ 1 → p < n
@@ -67,6 +71,18 @@ with-more s p l = refl
 pub from-is : (l : List ℕ) → setFrom l ≡ withAll 0 l
 unfolding setFrom
 from-is l = refl
+
+pub from-none : setFrom [] ≡ 0
+unfolding setFrom withAll
+from-none = refl
+
+pub from-three : (a b c : ℕ) → setFrom (a ∷ b ∷ c ∷ []) ≡ with (with (with 0 a) b) c
+unfolding setFrom withAll
+from-three a b c = refl
+
+pub from-one : (p : ℕ) → setFrom (p ∷ []) ≡ 2 ^ p
+unfolding setFrom withAll
+from-one p = with-absent 0 p (bit-empty p) ∙ omega arith
 
 -- one of those that pass a test
 pub with-kept : (f : ℕ → Bool) (s p : ℕ) (l : List ℕ)

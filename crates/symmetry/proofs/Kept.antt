@@ -12,7 +12,8 @@ use Rattle.lists.proofs.Table.{every, every-at, everyThree, every-three}
 use Rattle.lists.proofs.Tests.{same-test, and-left, and-right, and-both, member-is, is-member, all-member, any-member, member-any, member-all}
 use Rattle.board.specs.Geometry.{follows, inward, adjoin, ringMills, crossMills, mills}
 use Rattle.rules.specs.Ply.{holds, inMill}
-use Rattle.rules.proofs.Mills.{mill-low}
+use Rattle.rules.proofs.Mills.{in-mill-any}
+use Rattle.board.proofs.Geometry.{mill-low}
 use Rattle.symmetry.specs.Symmetries.{symmetries, placeFrom, ringFrom, source, image}
 use Rattle.symmetry.proofs.Group.{inverse, inverse-low, source-undo, source-redo}
 use Rattle.symmetry.proofs.Images.{image-length, image-at}
@@ -84,15 +85,15 @@ module _ (rings : ℕ) (few : rings ≤ 3) where
   -- a full mill of the image is one of the board,
   mill-forth : (g : ℕ) → g < symmetries → (b : List ℕ) → length b ≡ 8 * rings → (v p : ℕ) → inMill rings (holds (image rings g b) v) p ≡ true
       → inMill rings (holds b v) (source rings g p) ≡ true
-  unfolding inMill
   mill-forth g h b points v p t =
       let c = image rings g b in
-      let e = any-member _ (mills rings) t in
+      let e = any-member _ (mills rings) (sym (in-mill-any rings (holds c v) p) ∙ t) in
       let l = e .0 in
       let k = mill-kept g h l (e .1) in
       let own = member-is p l (and-left (member p l) _ (e .2)) in
       let full = all-member (holds c v) l (and-right (member p l) _ (e .2)) in
-      member-any _ (mills rings) (k .is-mill)
+      in-mill-any rings (holds b v) (source rings g p)
+      ∙ member-any _ (mills rings) (k .is-mill)
       (and-both (member (source rings g p) (k .mill)) _ (is-member (source rings g p) (k .mill) (k .there p own))
       (member-all (holds b v) (k .mill) (λ y m.
       let q = k .back y m in

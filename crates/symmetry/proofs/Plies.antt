@@ -10,17 +10,18 @@ use native.Mathlib.Omega.{arith}
 use lib.Dec.{eqb}
 use lib.ListN.{length}
 use Rattle.lists.specs.Lists.{orElse}
-use Rattle.lists.proofs.Members.{keep-member, member-keep, map-member, member-map, orElse-first, orElse-second}
+use Rattle.lists.proofs.Members.{orElse-first, orElse-second}
 use Rattle.rules.specs.Ply.{holds, holding, inMill, slide, unshielded, removable, noRemoval, removals, moveNumber, fromOf, toOf, removedOf}
 use Rattle.rules.specs.Ply.{moves, remove, exchange, afterPly, successors}
-use Rattle.rules.proofs.Listed.{holding-is, is-holding, Move, Listed, move-of, of-move, removal-cases, TakesOpponent}
-use Rattle.rules.proofs.Leads.{Parts, parts-of, slide-length}
+use Rattle.rules.proofs.Listed.{holding-is, is-holding, Move, Listed, move-of, of-move, removals-with, removals-without, removal-cases, TakesOpponent}
+use Rattle.rules.proofs.Listed.{successor-of, of-successor, unshielded-is, is-unshielded, removable-are}
+use Rattle.rules.proofs.Leads.{Parts, parts-of, after-parts, after-length, slide-length}
 use Rattle.symmetry.specs.Symmetries.{symmetries, source, image}
 use Rattle.symmetry.proofs.Group.{inverse, inverse-low, inverse-inverse, source-none, source-low, source-undo}
 use Rattle.symmetry.proofs.Images.{image-length, image-at}
 use Rattle.symmetry.proofs.Compose.{image-back, image-forth, image-count}
 use Rattle.symmetry.proofs.Kept.{adjoin-kept, mill-image}
-use Rattle.symmetry.proofs.Stores.{after-points, PointOrNone, removed-back, image-exchange, slide-image, remove-image}
+use Rattle.symmetry.proofs.Stores.{PointOrNone, removed-back, image-exchange, slide-image, remove-image}
 
 -- a move number with each of its points taken to its source; no removal stays none
 unfoldable pub sourceMove : ℕ → ℕ → ℕ → ℕ
@@ -37,11 +38,6 @@ orElse-carried : (f : ℕ → ℕ) (l k o u : List ℕ) (x : ℕ) → ((y : ℕ)
     → List·Memᴰ x (orElse l o) → List·Memᴰ (f x) (orElse k u)
 orElse-carried f [] k o u x there back other m = orElse-second k u (λ y i. List·Memᴰ·not-nil (back y i .1)) (other m)
 orElse-carried f (a ∷ l) k o u x there back other m = orElse-first k u (there x m)
-
--- the board after a move of these parts
-after-parts : (b : List ℕ) (n from to removed : ℕ) → Parts n from to removed → afterPly b n ≡ map (λ v. exchange v) (remove (slide b from to) removed)
-unfolding afterPly
-after-parts b n from to removed q = rw (q .from-is, q .to-is, q .removed-is)
 
 module _ (rule : ℕ → List ℕ → List ℕ) (takes : TakesOpponent rule) (commutes : Commutes rule) (rings : ℕ) (few : rings ≤ 3) where
   removal-point : (b : List ℕ) (t r : ℕ) → List·Memᴰ r (removals rule rings b t) → PointOrNone rings r
@@ -61,8 +57,7 @@ module _ (rule : ℕ → List ℕ → List ℕ) (takes : TakesOpponent rule) (co
   -- what may be removed on an image, may be removed on the board, at its source
   removals-image : (g : ℕ) → g < symmetries → (b : List ℕ) → length b ≡ 8 * rings → (t r : ℕ) → t < 8 * rings
       → List·Memᴰ r (removals rule rings (image rings g b) t) → List·Memᴰ (source rings g r) (removals rule rings b (source rings g t))
-  unfolding removals
-  removals-image g h b points t r low m = go (inMill rings (holds b 1) (source rings g t)) refl m
+  removals-image g h b points t r low m = go (inMill rings (holds b 1) (source rings g t)) refl
     where
       none : List·Memᴰ r (noRemoval ∷ []) → List·Memᴰ (source rings g r) (noRemoval ∷ [])
       none i = let e = List·Memᴰ·eq-of-singleton i in List·Memᴰ·head (source-none rings g r (omega arith) ∙ e)
@@ -77,13 +72,15 @@ module _ (rule : ℕ → List ℕ → List ℕ) (takes : TakesOpponent rule) (co
       same : inMill rings (holds (image rings g b) 1) t ≡ inMill rings (holds b 1) (source rings g t)
       same = mill-image rings few g h b points 1 t low
 
-      go : (c : Bool) → inMill rings (holds b 1) (source rings g t) ≡ c → List·Memᴰ r (removals rule rings (image rings g b) t)
-          → List·Memᴰ (source rings g r) (removals rule rings b (source rings g t))
-      go true e i =
-          rw (e, removals)
+      go : (c : Bool) → inMill rings (holds b 1) (source rings g t) ≡ c → List·Memᴰ (source rings g r) (removals rule rings b (source rings g t))
+      go true e =
+          subst (λ (l : List ℕ). List·Memᴰ (source rings g r) l) (sym (removals-with rule rings b (source rings g t) e))
           (orElse-carried (λ x. source rings g x) (rule rings (image rings g b)) (rule rings b) (noRemoval ∷ []) (noRemoval ∷ []) r
-          (λ x j. commutes rings few g h b points x j) back none (rw (same ∙ e, removals) at i))
-      go false e i = rw (e, removals) (none (rw (same ∙ e, removals) at i))
+          (λ x j. commutes rings few g h b points x j) back none
+          (subst (λ (l : List ℕ). List·Memᴰ r l) (removals-with rule rings (image rings g b) t (same ∙ e)) m))
+      go false e =
+          subst (λ (l : List ℕ). List·Memᴰ (source rings g r) l) (sym (removals-without rule rings b (source rings g t) e))
+          (none (subst (λ (l : List ℕ). List·Memᴰ r l) (removals-without rule rings (image rings g b) t (same ∙ e)) m))
 
   module _ (g : ℕ) (h : g < symmetries) (b : List ℕ) (points : length b ≡ 8 * rings) where
     -- a move of the image is a move of the board, point by point
@@ -165,29 +162,27 @@ module _ (rule : ℕ → List ℕ → List ℕ) (takes : TakesOpponent rule) (co
           listed = w .listed;
           after-is =
               ap (λ (x : List ℕ). image rings g (afterPly x n)) (sym e) ∙ ap (λ (x : List ℕ). image rings g x) (w .after-is)
-              ∙ image-forth rings few (afterPly c k) (after-points c k ∙ l) g h;
+              ∙ image-forth rings few (afterPly c k) (after-length c k ∙ l) g h;
           back-is = subst (λ (i : ℕ). sourceMove rings i k ≡ n) (inverse-inverse g h) (w .back-is);
         }
 
     -- each successor of the image is the image of a successor,
     pub successors-image : (c : List ℕ) → List·Memᴰ c (successors rule rings (image rings g b))
         → (d : List ℕ) × List·Memᴰ d (successors rule rings b) × (c ≡ image rings g d)
-    unfolding successors
     successors-image c m =
-        let a = map-member (λ n. afterPly (image rings g b) n) (moves rule rings (image rings g b)) m in
+        let a = successor-of rule rings (image rings g b) c m in
         let w = moves-image g h b points (a .0) (a .1) in
-        (afterPly b (sourceMove rings g (a .0)), member-map (λ n. afterPly b n) (moves rule rings b) (w .listed), a .2 ∙ w .after-is)
+        (afterPly b (sourceMove rings g (a .0)), of-successor rule rings b (sourceMove rings g (a .0)) (w .listed), a .2 ∙ w .after-is)
 
     -- and the image of each successor is a successor of the image
     pub image-successors : (d : List ℕ) → List·Memᴰ d (successors rule rings b)
         → List·Memᴰ (image rings g d) (successors rule rings (image rings g b))
-    unfolding successors
     image-successors d m =
-        let a = map-member (λ n. afterPly b n) (moves rule rings b) m in
+        let a = successor-of rule rings b d m in
         let w = image-moves (a .0) (a .1) in
         subst (λ (x : List ℕ). List·Memᴰ x (successors rule rings (image rings g b)))
         (sym (ap (λ (x : List ℕ). image rings g x) (a .2) ∙ w .after-is))
-        (member-map (λ n. afterPly (image rings g b) n) (moves rule rings (image rings g b)) (w .listed))
+        (of-successor rule rings (image rings g b) (sourceMove rings (inverse g) (a .0)) (w .listed))
 
 -- the stones of an image come from stones of the same side
 holding-image : (rings : ℕ) → rings ≤ 3 → (g : ℕ) → g < symmetries → (b : List ℕ) → length b ≡ 8 * rings → (v p : ℕ)
@@ -197,24 +192,23 @@ holding-image rings few g h b points v p m =
     is-holding rings b v (source rings g p) (source-low rings few g p h (s .0)) (sym (image-at rings g b p (omega (arith, s .0))) ∙ s .1)
 
 unshielded-commutes : Commutes (λ rings b. unshielded rings b)
-unfolding unshielded
 unshielded-commutes rings few g h b points r m =
     let c = image rings g b in
-    let s = keep-member (λ p. not (inMill rings (holds c 2) p)) (holding rings c 2) m in
+    let s = unshielded-is rings c r m in
     let l = holding-is rings c 2 r (s .0) in
-    member-keep (λ p. not (inMill rings (holds b 2) p)) (holding rings b 2) (holding-image rings few g h b points 2 r (s .0))
+    is-unshielded rings b (source rings g r) (holding-image rings few g h b points 2 r (s .0))
     (ap not (sym (mill-image rings few g h b points 2 r (l .0))) ∙ s .1)
 
 -- document 01's rule of removal commutes with the symmetries
 pub removable-commutes : Commutes (λ rings b. removable rings b)
-unfolding removable
 removable-commutes rings few g h b points r m =
     let c = image rings g b in
-    orElse-carried (λ p. source rings g p) (unshielded rings c) (unshielded rings b) (holding rings c 2) (holding rings b 2) r
+    subst (λ (l : List ℕ). List·Memᴰ (source rings g r) l) (sym (removable-are rings b))
+    (orElse-carried (λ p. source rings g p) (unshielded rings c) (unshielded rings b) (holding rings c 2) (holding rings b 2) r
     (λ x i. unshielded-commutes rings few g h b points x i)
     (λ x i. (
       source rings (inverse g) x,
       unshielded-commutes rings few (inverse g) (inverse-low g h) c (image-length rings g b ∙ points) x
           (subst (λ (y : List ℕ). List·Memᴰ x (unshielded rings y)) (sym (image-back rings few b points g h)) i),
     ))
-    (λ i. holding-image rings few g h b points 2 r i) m
+    (λ i. holding-image rings few g h b points 2 r i) (subst (λ (l : List ℕ). List·Memᴰ r l) (removable-are rings c) m))

@@ -7,26 +7,14 @@ use mathlib.Core.Logic.{_⊎_, inl, inr}
 use Prim.Native.Nat.{ℕ, _*_, _≤_, _<_}
 use native.Mathlib.Omega.{arith}
 use lib.Dec.{eqb}
-use lib.ListN.{getD, set, length, length-set, length-map, List·getD-map}
+use lib.ListN.{getD, set, length, length-set, length-map}
 use lib.Seq.{getD-set-same, getD-set-other}
-use borrow.Author.Tests.{eqb-true, eqb-false, eq-eqb, ne-eqb}
-use Rattle.rules.specs.Ply.{slide, noRemoval, fromOf, toOf, removedOf, remove, exchange, afterPly}
-use Rattle.rules.proofs.Leads.{slide-length}
+use borrow.Author.Tests.{eqb-true, eqb-false}
+use Rattle.rules.specs.Ply.{slide, noRemoval, remove, exchange}
+use Rattle.rules.proofs.Leads.{slide-is, remove-none, remove-one, exchange-at}
 use Rattle.symmetry.specs.Symmetries.{symmetries, source, image}
 use Rattle.symmetry.proofs.Group.{inverse, source-none, source-low, source-undo}
 use Rattle.symmetry.proofs.Images.{image-length, image-at, image-is}
-
--- a board keeps its points
-pub after-points : (b : List ℕ) (n : ℕ) → length (afterPly b n) ≡ length b
-unfolding afterPly remove
-after-points b n = length-map (remove k (removedOf n)) (λ v. exchange v) ∙ go (eqb (removedOf n) noRemoval) refl
-  where
-    k : List ℕ
-    k = slide b (fromOf n) (toOf n)
-
-    go : (t : Bool) → eqb (removedOf n) noRemoval ≡ t → length (remove k (removedOf n)) ≡ length b
-    go true e = rw (e, remove) (slide-length b (fromOf n) (toOf n))
-    go false e = rw (e, remove) (length-set k (removedOf n) 0 ∙ slide-length b (fromOf n) (toOf n))
 
 -- what a ply removes: nothing, or the stone at a point
 abbrev pub PointOrNone : ℕ → ℕ → Type 0
@@ -40,13 +28,12 @@ module _ (rings : ℕ) (few : rings ≤ 3) (g : ℕ) (h : g < symmetries) where
   removed-back r (inr l) = source-undo rings few g r h l
 
   pub image-exchange : (b : List ℕ) → map (λ v. exchange v) (image rings g b) ≡ image rings g (map (λ v. exchange v) b)
-  unfolding exchange
   image-exchange b =
       image-is rings g (map (λ v. exchange v) b) (map (λ v. exchange v) (image rings g b))
       (length-map (image rings g b) (λ v. exchange v) ∙ image-length rings g b ∙ sym (length-map b (λ v. exchange v)))
-      (λ p l. List·getD-map (λ v. exchange v) (image rings g b) p 0
+      (λ p l. exchange-at (image rings g b) p
       ∙ ap (λ (v : ℕ). exchange v) (image-at rings g b p (omega (arith, length-map b (λ v. exchange v))))
-      ∙ sym (List·getD-map (λ v. exchange v) b (source rings g p) 0))
+      ∙ sym (exchange-at b (source rings g p)))
 
   image-set : (b : List ℕ) → length b ≡ 8 * rings → (p v : ℕ) → p < 8 * rings → set (image rings g b) p v ≡ image rings g (set b (source rings g p) v)
   image-set b points p v low =
@@ -71,15 +58,16 @@ module _ (rings : ℕ) (few : rings ≤ 3) (g : ℕ) (h : g < symmetries) where
   module _ (b : List ℕ) (points : length b ≡ 8 * rings) where
     pub slide-image : (s t : ℕ) → s < 8 * rings → t < 8 * rings
         → slide (image rings g b) s t ≡ image rings g (slide b (source rings g s) (source rings g t))
-    unfolding slide
     slide-image s t a c =
-        ap (λ (x : List ℕ). set x t 1) (image-set b points s 0 a)
+        slide-is (image rings g b) s t ∙ ap (λ (x : List ℕ). set x t 1) (image-set b points s 0 a)
         ∙ image-set (set b (source rings g s) 0) (length-set b (source rings g s) 0 ∙ points) t 1 c
+        ∙ ap (image rings g) (sym (slide-is b (source rings g s) (source rings g t)))
 
     pub remove-image : (r : ℕ) → PointOrNone rings r → remove (image rings g b) r ≡ image rings g (remove b (source rings g r))
-    unfolding remove
     remove-image r (inl e) =
-        rw (eq-eqb r noRemoval e, eq-eqb (source rings g r) noRemoval (source-none rings g r (omega arith) ∙ e), remove)
+        remove-none (image rings g b) r e
+        ∙ ap (image rings g) (sym (remove-none b (source rings g r) (source-none rings g r (omega arith) ∙ e)))
     remove-image r (inr l) =
         let low = source-low rings few g r h l in
-        rw (ne-eqb r noRemoval (λ z. omega arith), ne-eqb (source rings g r) noRemoval (λ z. omega arith), remove) (image-set b points r 0 l)
+        remove-one (image rings g b) r (λ z. omega arith) ∙ image-set b points r 0 l
+        ∙ ap (image rings g) (sym (remove-one b (source rings g r) (λ z. omega arith)))

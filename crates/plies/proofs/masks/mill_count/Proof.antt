@@ -1,5 +1,5 @@
 -- `plies::masks::mill_count` meets its contract. Assumes nothing.
-use Rattle.plies.proofs.Derived.{all-mills, ring-mills}
+use Rattle.board.proofs.Geometry.{all-mills, ring-mills}
 use borrow.Author.Needs.{needs}
 use Rattle.plies.proofs.masks.mill_count.Statement.{statement}
 use Rattle.plies.proofs.masks.mill_count.Tie as tie
