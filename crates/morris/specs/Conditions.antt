@@ -19,6 +19,10 @@ ringsWrong rings = ltb rings 1 || ltb 3 rings
 abbrev pub lengthWrong : ℕ → ℕ → Bool
 lengthWrong rings n = not (eqb n (8 * rings))
 
+-- 2: the length of a frame is not that of its rings
+abbrev pub frameLengthWrong : ℕ → ℕ → Bool
+frameLengthWrong rings n = not (eqb n (frameLength rings))
+
 -- 3: a value above 2
 unfoldable pub valueWrong : List ℕ → Bool
 valueWrong [] = false
@@ -28,9 +32,17 @@ valueWrong (x ∷ b) = ltb 2 x || valueWrong b
 abbrev pub countsWrong : ℕ → ℕ → ℕ → Bool
 countsWrong points m o = ltb m 3 || ltb 9 m || ltb o 3 || ltb 9 o || ltb points (m + o)
 
+-- 7: a target shorter than what it is to hold
+abbrev pub targetShort : ℕ → ℕ → Bool
+targetShort room n = ltb room n
+
 -- 5: a rank not below the size
 abbrev pub rankWrong : ℕ → ℕ → ℕ → ℕ → Bool
 rankWrong points m o r = leb (size points m o) r
+
+-- 8: not a listed move
+abbrev pub moveWrong : ℕ → List ℕ → ℕ → Bool
+moveWrong rings b move = not (member move (listedMoves rings b))
 
 -- what every call picks for rings and a board
 abbrev pub boardPicks : ℕ → List ℕ → List Pick
@@ -50,14 +62,6 @@ countsPicks rings m o room =
 abbrev pub rankPicks : ℕ → ℕ → ℕ → ℕ → ℕ → List Pick
 rankPicks rings m o r room = pick wrongRank (rankWrong (8 * rings) m o r) ∷ countsPicks rings m o room
 
--- 7: a target shorter than what it is to hold
-abbrev pub targetShort : ℕ → ℕ → Bool
-targetShort room n = ltb room n
-
--- 8: not a listed move
-abbrev pub moveWrong : ℕ → List ℕ → ℕ → Bool
-moveWrong rings b move = not (member move (listedMoves rings b))
-
 -- what a call picks for rings, a board and a target of so many places that is to hold so many
 abbrev pub shortPicks : ℕ → List ℕ → ℕ → ℕ → List Pick
 shortPicks rings b room needed = pick shortTarget (targetShort room needed) ∷ boardPicks rings b
@@ -69,10 +73,6 @@ targetPicks rings b room = pick wrongTarget (lengthWrong rings room) ∷ boardPi
 -- and for a move besides
 abbrev pub movePicks : ℕ → List ℕ → ℕ → ℕ → List Pick
 movePicks rings b move room = pick wrongMove (moveWrong rings b move) ∷ targetPicks rings b room
-
--- 2: the length of a frame is not that of its rings
-abbrev pub frameLengthWrong : ℕ → ℕ → Bool
-frameLengthWrong rings n = not (eqb n (frameLength rings))
 
 -- what a call picks for a frame
 abbrev pub framePicks : List ℕ → List Pick

@@ -10,9 +10,9 @@ ghost use Rattle.morris.specs.RankCall.{ranked, rankCall};
 ghost use Rattle.morris.specs.UnrankCall.{unranked, unrankCall, unrankTarget};
 ghost use Rattle.morris.specs.MovesCall.{listed, movesCall, movesList};
 ghost use Rattle.morris.specs.MakeMoveCall.{made, makeMoveCall, makeMoveTarget};
+ghost use Rattle.morris.specs.RepresentativeCall.{represented, representativeCall};
 ghost use Rattle.morris.specs.ReadFrameCall.{frameRead, readFrameCall};
 ghost use Rattle.morris.specs.WriteFrameCall.{frameWritten, writeFrameCall, writeFrameTarget};
-ghost use Rattle.morris.specs.RepresentativeCall.{represented, representativeCall};
 
 // The rank of a board, or the number of a refusal.
 pub enum Ranked {
@@ -116,6 +116,24 @@ pub fn make_move(rings: u8, board: &[u8], number: u16, target: &mut [u8]) -> Mad
     Made::Refused(refusals::MOVE)
 }
 
+// The rank of a representative, or the number of a refusal.
+pub enum Represented {
+    Rank(u64),
+    Refused(u8),
+}
+
+// The rank of the representative of a board's class. Refusals: 1, 2, 3, 4.
+pub fn representative(rings: u8, board: &[u8]) -> Represented
+    ensures { λ r. ⌜ represented r ≡ representativeCall rings (now (board .entry)) ⌝ }
+{
+    let refusal = refusals::of_board(rings, board);
+    if refusal != 0 {
+        return Represented::Refused(refusal);
+    }
+    let binomials = sizes::binomial_table();
+    Represented::Rank(symmetry::representative_rank(&binomials, rings as usize, board) as u64)
+}
+
 // A frame taken apart: a position as two point sets, or the number of a refusal.
 pub enum Frame {
     Position {
@@ -170,22 +188,4 @@ pub fn write_frame(rings: u8, board: &[u8], target: &mut [u8]) -> Framed
     }
     frames::write(rings, board, target);
     Framed::Length(length)
-}
-
-// The rank of a representative, or the number of a refusal.
-pub enum Represented {
-    Rank(u64),
-    Refused(u8),
-}
-
-// The rank of the representative of a board's class. Refusals: 1, 2, 3, 4.
-pub fn representative(rings: u8, board: &[u8]) -> Represented
-    ensures { λ r. ⌜ represented r ≡ representativeCall rings (now (board .entry)) ⌝ }
-{
-    let refusal = refusals::of_board(rings, board);
-    if refusal != 0 {
-        return Represented::Refused(refusal);
-    }
-    let binomials = sizes::binomial_table();
-    Represented::Rank(symmetry::representative_rank(&binomials, rings as usize, board) as u64)
 }

@@ -17,6 +17,6 @@ pub record Slide (rings : ℕ) (position : Position) (from to : ℕ) : Type 0 wh
   pub free : bit (position .mover) to ≡ 0
   pub none : bit (position .opponent) to ≡ 0
 
--- vacant points
+-- a stone of the mover's, and a set of vacant points
 abbrev pub Vacant : ℕ → Position → ℕ → ℕ → Type 0
 Vacant rings position from tos = (to : ℕ) → bit tos to ≡ 1 → Slide rings position from to

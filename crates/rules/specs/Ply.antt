@@ -9,7 +9,7 @@ use Rattle.lists.specs.Lists.{keep, all, any, each, member, orElse}
 use Rattle.board.specs.Geometry.{points, adjoin, mills}
 use Rattle.board.specs.Board.{count}
 
--- what holds v at a point
+-- point p holds v
 abbrev pub holds : List ℕ → ℕ → ℕ → Bool
 holds b v p = eqb (getD b p 0) v
 
@@ -70,7 +70,7 @@ stoneMoves rule rings b from tos = each (λ to. slideMoves rule rings b from to)
 unfoldable pub moves : (ℕ → List ℕ → List ℕ) → ℕ → List ℕ → List ℕ
 moves rule rings b = each (λ from. stoneMoves rule rings b from (targets rings b from)) (holding rings b 1)
 
--- by document 01's rule of removal
+-- both by document 01's rule of removal
 abbrev pub listedFrom : ℕ → List ℕ → ℕ → List ℕ → List ℕ
 listedFrom rings b from tos = stoneMoves (λ n c. removable n c) rings b from tos
 
