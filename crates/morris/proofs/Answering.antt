@@ -1,5 +1,5 @@
 -- An answer and a target at exit, by whether the call was turned back. Assumes nothing.
-use mathlib.Core.Path.{_≡_, refl, ap}
+use mathlib.Core.Path.{_≡_, refl, ap, _∙_}
 use mathlib.Core.List.{List}
 use Prim.Native.Nat.{ℕ, zero, suc}
 use native.Mathlib.Omega.{arith}
@@ -20,6 +20,14 @@ answer-accepted r vs e = ap (λ (k : ℕ). answer k vs) e
 
 pub target-written : (r : ℕ) (new old : List ℕ) → 0 ≡ r → new ≡ target r new old
 target-written r new old e = ap (λ (k : ℕ). target k new old) e
+
+-- the two ways out of a call with a target: turned back, and written
+module _ (met : ℕ) (vs new old : List ℕ) where
+  pub turned-back : (n : ℕ) → (n ≡ 0 → ⊥) → n ≡ met → (refused n ≡ answer met vs) × (old ≡ target met new old)
+  turned-back n z e = (answer-refused n met vs z e, target-kept n met new old z e)
+
+  pub written : (ws out : List ℕ) → 0 ≡ met → ws ≡ vs → out ≡ new → (accepted ws ≡ answer met vs) × (out ≡ target met new old)
+  written ws out z v e = (ap accepted v ∙ answer-accepted met vs z, e ∙ target-written met new old z)
 
 -- what an answer says of the refusal that was met
 pub number-none : (r : ℕ) (vs : List ℕ) → number (answer r vs) ≡ 0 → r ≡ 0

@@ -9,7 +9,7 @@ use lib.ListN.{length, take, drop}
 use lib.Seq.{sets, sets-eq, take-at, drop-at}
 use borrow.Author.Tests.{eq-eqb, le-ltb, ltb-false}
 use Rattle.board.specs.Board.{setOf, count, boardOf}
-use Rattle.board.proofs.Sides.{board-position, position-sides}
+use Rattle.board.proofs.Sides.{position-sides}
 use Rattle.frames.specs.Frame.{frameLength, ringsIn, boardIn, frameOf}
 use Rattle.frames.proofs.RoundTrip.{rings-back, board-back, length-frame, frame-fine, frame-back}
 use Rattle.morris.specs.Refusals.{table, pickedRows, refusal}
@@ -19,6 +19,7 @@ use Rattle.morris.specs.ReadFrameCall.{framePosition, readFrameCall}
 use Rattle.morris.specs.WriteFrameCall.{writeFrameCall, writeFrameTarget}
 use Rattle.morris.proofs.FirstRefusal.{passes, passed}
 use Rattle.morris.proofs.Conditions.{accepted-board, short-decides}
+use Rattle.morris.proofs.Positions.{position-back}
 use Rattle.morris.proofs.FrameConditions.{board-accepted}
 use Rattle.morris.proofs.Answering.{answer-accepted, target-written, number-none}
 
@@ -56,8 +57,7 @@ module _ (rings : ℕ) (b : List ℕ) (e : refusal (boardPicks rings b) ≡ 0) w
   -- which stands for the board
   pub position-board : boardOf (8 * rings) (record { mover = setOf 1 b; opponent = setOf 2 b }) ≡ b
   position-board =
-      let w = accepted-board rings b e in
-      ap₂ boardOf (sym (w .points)) (sym (position-sides b)) ∙ board-position b (w .values)
+      ap (boardOf (8 * rings)) (sym (position-sides b)) ∙ position-back rings b (accepted-board rings b e)
 
 -- a board that `write_frame` accepts: the characters that it answers, read from the start of the target, give the board's position; the places
 -- beyond them are as they were

@@ -23,12 +23,12 @@ module _ (rings : ℕ) (b : List ℕ) (w : Accepted rings b) where
   pub placed : Placed rings (positionOf b)
   placed = record { small = w .rings-high; on = subst (λ (n : ℕ). OnBoard n (positionOf b)) (w .points) (position-on b) }
 
-  pub board-back : boardOf (8 * rings) (positionOf b) ≡ b
-  board-back = ap (λ (n : ℕ). boardOf n (positionOf b)) (sym (w .points)) ∙ board-position b (w .values)
+  pub position-back : boardOf (8 * rings) (positionOf b) ≡ b
+  position-back = ap (λ (n : ℕ). boardOf n (positionOf b)) (sym (w .points)) ∙ board-position b (w .values)
 
   -- the moves are the board's
   pub moves-back : listedMoves rings (boardOf (8 * rings) (positionOf b)) ≡ listedMoves rings b
-  moves-back = ap (listedMoves rings) board-back
+  moves-back = ap (listedMoves rings) position-back
 
   -- the board after a listed move
   pub after-back : (move : ℕ) → member move (listedMoves rings b) ≡ true → boardOf (8 * rings) (positionOf (afterPly b move)) ≡ afterPly b move

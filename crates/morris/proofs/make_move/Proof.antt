@@ -1,7 +1,7 @@
 -- `morris::make_move` meets its contract: a refusal of the board or the target, then of the move, or the board after it. Assumes nothing.
-use mathlib.Core.Path.{_≡_, sym, ap, ap₂, subst, _∙_}
+use mathlib.Core.Path.{_≡_, refl, sym, ap, ap₂, subst, _∙_}
 use mathlib.Core.Bool.{Bool, true, cond, not}
-use mathlib.Core.List.{List, []}
+use mathlib.Core.List.{List}
 use Prim.Native.Nat.{ℕ, _*_}
 use native.Mathlib.Omega.{arith}
 use lib.ListN.{length}
@@ -12,27 +12,13 @@ use Rattle.board.specs.Board.{positionOf, boardOf}
 use Rattle.rules.specs.Ply.{listedMoves, afterPly}
 use Rattle.plies.specs.Positions.{Placed}
 use Rattle.morris.specs.Refusals.{refusal}
-use Rattle.morris.specs.Conditions.{targetPicks, movePicks}
-use Rattle.morris.specs.Answers.{accepted, refused}
+use Rattle.morris.specs.Conditions.{targetPicks}
 use Rattle.morris.specs.MakeMoveCall.{makeMoveCall, makeMoveTarget}
 use Rattle.morris.proofs.Conditions.{Accepted, accepted-target, move-refused, move-decides}
-use Rattle.morris.proofs.Positions.{few-points, placed, board-back, moves-back, after-back}
-use Rattle.morris.proofs.Answering.{answer-refused, answer-accepted, target-kept, target-written}
+use Rattle.morris.proofs.Positions.{few-points, placed, position-back, moves-back, after-back}
+use Rattle.morris.proofs.Answering.{turned-back, written}
 use Rattle.morris.proofs.make_move.Statement.{statement}
 use Rattle.morris.proofs.make_move.Tie as tie
-
--- the two ways out: turned back with a number, and written
-module _ (rings : ℕ) (b : List ℕ) (move : ℕ) (old : List ℕ) where
-  abbrev met : ℕ
-  met = refusal (movePicks rings b move (length old))
-
-  turned-back : (n : ℕ) → (n ≡ 0 → ⊥) → n ≡ met → (refused n ≡ makeMoveCall rings b move old) × (old ≡ makeMoveTarget rings b move old)
-  unfolding makeMoveCall makeMoveTarget
-  turned-back n z e = (answer-refused n met [] z e, target-kept n met (afterPly b move) old z e)
-
-  written : (new : List ℕ) → 0 ≡ met → new ≡ afterPly b move → (accepted [] ≡ makeMoveCall rings b move old) × (new ≡ makeMoveTarget rings b move old)
-  unfolding makeMoveCall makeMoveTarget
-  written new z e = (answer-accepted met [] z, e ∙ target-written met (afterPly b move) old z)
 
 -- past the first refusals, the board and the target are accepted
 passed-target : (c : tie.Else1)
@@ -68,10 +54,11 @@ of-target-requires : tie.Need-of-target-requires
 of-target-requires c κs = search needs
 
 returns : tie.Need-returns
+unfolding makeMoveCall makeMoveTarget
 returns c =
     let a = c .before .before .before .before .args in
     let n = c .before .of-target .result in
-    turned-back (a .rings) (a .board .now) (a .number) (a .target .now) n (c .if1 .taken)
+    turned-back _ _ _ _ n (c .if1 .taken)
     (move-refused (a .rings) (a .board .now) (length (a .target .now)) (a .number) n (c .if1 .taken) (c .before .of-target .ensures))
 
 neighbour-masks-requires : tie.Need-neighbour-masks-requires
@@ -106,6 +93,7 @@ same-length : tie.Need-same-length
 same-length c = search needs
 
 returns-2 : tie.Need-returns-2
+unfolding makeMoveCall makeMoveTarget
 returns-2 c =
     let w = c .before .before in
     let f = w .before .before in
@@ -118,18 +106,19 @@ returns-2 c =
     let e : member (a .number) (listedMoves (a .rings) b) ≡ true = sym (same p (a .number)) ∙ sym (m .is-move .ensures) ∙ t .if2 .taken in
     let d : f .after-ply .result ≡ positionOf (afterPly b (a .number)) =
     f .after-ply .ensures ∙ ap (λ (c : List ℕ). positionOf (afterPly c (a .number)))
-    (ap (boardOf (8 * a .rings)) (p .position-of .ensures) ∙ board-back (a .rings) b (board x)) in
-    written (a .rings) b (a .number) (a .target .now) _
-    (sym (move-decides (a .rings) b (length (a .target .now)) (a .number) (passed-target x) ∙ ap (λ (t : Bool). cond (not t) 8 0) e))
+    (ap (boardOf (8 * a .rings)) (p .position-of .ensures) ∙ position-back (a .rings) b (board x)) in
+    written _ _ _ _ _ _
+    (sym (move-decides (a .rings) b (length (a .target .now)) (a .number) (passed-target x) ∙ ap (λ (t : Bool). cond (not t) 8 0) e)) refl
     (w .write-board .ensures ∙ ap₂ boardOf (room x) d ∙ after-back (a .rings) b (board x) (a .number) e)
 
 returns-3 : tie.Need-returns-3
+unfolding makeMoveCall makeMoveTarget
 returns-3 c =
     let m = c .before in
     let p = m .before .before .before in
     let x = p .before .before .before in
     let a = x .before .before .before .before .args in
-    turned-back (a .rings) (a .board .now) (a .number) (a .target .now) 8 (λ z. absurd (omega arith))
+    turned-back _ _ _ _ 8 (λ z. absurd (omega arith))
     (sym (move-decides (a .rings) (a .board .now) (length (a .target .now)) (a .number) (passed-target x)
     ∙ ap (λ (t : Bool). cond (not t) 8 0) (sym (same p (a .number)) ∙ sym (m .is-move .ensures) ∙ c .if2 .left)))
 

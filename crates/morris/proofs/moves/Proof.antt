@@ -1,7 +1,7 @@
 -- `morris::moves` meets its contract: a refusal of the board, then of the list, or the moves. Assumes nothing.
 use mathlib.Core.Path.{_≡_, sym, ap, subst, _∙_}
 use mathlib.Core.Bool.{Bool, cond}
-use mathlib.Core.List.{List, [], _∷_}
+use mathlib.Core.List.{[], _∷_}
 use Prim.Native.Nat.{ℕ, _*_}
 use native.Mathlib.Omega.{arith}
 use lib.ListN.{length}
@@ -13,34 +13,13 @@ use Rattle.board.specs.Board.{boardOf}
 use Rattle.rules.specs.Ply.{listedMoves}
 use Rattle.plies.specs.Positions.{Placed}
 use Rattle.morris.specs.Refusals.{refusal}
-use Rattle.morris.specs.Conditions.{boardPicks, shortPicks}
-use Rattle.morris.specs.Answers.{accepted, refused}
+use Rattle.morris.specs.Conditions.{boardPicks}
 use Rattle.morris.specs.MovesCall.{movesCall, movesList}
 use Rattle.morris.proofs.Conditions.{Accepted, accepted-board, short-refused, short-decides}
 use Rattle.morris.proofs.Positions.{few-points, placed, moves-back}
-use Rattle.morris.proofs.Answering.{answer-refused, answer-accepted, target-kept, target-written}
+use Rattle.morris.proofs.Answering.{turned-back, written}
 use Rattle.morris.proofs.moves.Statement.{statement}
 use Rattle.morris.proofs.moves.Tie as tie
-
--- the two ways out: turned back with a number, and written
-module _ (rings : ℕ) (b old : List ℕ) where
-  abbrev met : ℕ
-  met = refusal (shortPicks rings b (length old) (length (listedMoves rings b)))
-
-  turned-back : (n : ℕ) → (n ≡ 0 → ⊥) → n ≡ met → (refused n ≡ movesCall rings b old) × (old ≡ movesList rings b old)
-  unfolding movesCall movesList
-  turned-back n z e = (
-    answer-refused n met (length (listedMoves rings b) ∷ []) z e,
-    target-kept n met (sets old 0 (listedMoves rings b)) old z e,
-  )
-
-  written : (n : ℕ) (new : List ℕ) → 0 ≡ met → n ≡ length (listedMoves rings b) → new ≡ sets old 0 (listedMoves rings b)
-      → (accepted (n ∷ []) ≡ movesCall rings b old) × (new ≡ movesList rings b old)
-  unfolding movesCall movesList
-  written n new z l e = (
-    ap (λ (k : ℕ). accepted (k ∷ [])) l ∙ answer-accepted met (length (listedMoves rings b) ∷ []) z,
-    e ∙ target-written met (sets old 0 (listedMoves rings b)) old z,
-  )
 
 -- past the first refusals, the board is accepted
 passed-board : (c : tie.Else1)
@@ -71,10 +50,11 @@ of-board-requires : tie.Need-of-board-requires
 of-board-requires c κs = search needs
 
 returns : tie.Need-returns
+unfolding movesCall movesList
 returns c =
     let a = c .before .before .before .before .args in
     let n = c .before .of-board .result in
-    turned-back (a .rings) (a .board .now) (a .list .now) n (c .if1 .taken)
+    turned-back _ _ _ _ n (c .if1 .taken)
     (short-refused (a .rings) (a .board .now) (length (a .list .now)) (length (listedMoves (a .rings) (a .board .now))) n (c .if1 .taken)
     (c .before .of-board .ensures))
 
@@ -96,6 +76,7 @@ count-moves-requires c κs =
     (p .before .before .neighbour-masks .ensures, (p .before .mill-masks .ensures, on p))
 
 returns-2 : tie.Need-returns-2
+unfolding movesCall movesList
 returns-2 c =
     let n = c .before in
     let p = n .before .before .before in
@@ -103,7 +84,7 @@ returns-2 c =
     let a = x .before .before .before .before .args in
     let m = length (listedMoves (a .rings) (a .board .now)) in
     let short = lt-ltb (length (a .list .now)) m (omega (arith, c .if2 .taken, n .count-moves .ensures, ap length (same p))) in
-    turned-back (a .rings) (a .board .now) (a .list .now) 7 (λ z. absurd (omega arith))
+    turned-back _ _ _ _ 7 (λ z. absurd (omega arith))
     (sym (short-decides (a .rings) (a .board .now) (length (a .list .now)) m (passed-board x) ∙ ap (λ (t : Bool). cond t 7 0) short))
 
 list-moves-requires : tie.Need-list-moves-requires
@@ -117,6 +98,7 @@ same-length : tie.Need-same-length
 same-length c = search needs
 
 returns-3 : tie.Need-returns-3
+unfolding movesCall movesList
 returns-3 c =
     let e = c .before .before .before .before .before .before in
     let n = e .before in
@@ -125,9 +107,9 @@ returns-3 c =
     let a = x .before .before .before .before .args in
     let m = length (listedMoves (a .rings) (a .board .now)) in
     let fits = le-ltb (length (a .list .now)) m (omega (arith, e .if2 .left, n .count-moves .ensures, ap length (same p))) in
-    written (a .rings) (a .board .now) (a .list .now) (n .count-moves .result) _
+    written _ _ _ _ _ _
     (sym (short-decides (a .rings) (a .board .now) (length (a .list .now)) m (passed-board x) ∙ ap (λ (t : Bool). cond t 7 0) fits))
-    (n .count-moves .ensures ∙ ap length (same p)) (c .before .before .list-moves .ensures ∙ ap (sets (a .list .now) 0) (same p))
+    (ap (λ (k : ℕ). k ∷ []) (n .count-moves .ensures ∙ ap length (same p))) (c .before .before .list-moves .ensures ∙ ap (sets (a .list .now) 0) (same p))
 
 pub moves-spec : {M : Type 1} → statement M
 moves-spec =

@@ -1,6 +1,6 @@
 -- `morris::unrank` meets its contract: a refusal of the counts' picks, then of the rank, or the board of the rank. Assumes nothing.
-use mathlib.Core.Path.{_≡_, sym, ap, ap₂, _∙_}
-use mathlib.Core.List.{List, []}
+use mathlib.Core.Path.{_≡_, refl, sym, ap, ap₂, _∙_}
+use mathlib.Core.List.{List}
 use Prim.Native.Nat.{ℕ, _*_, _≤_, _<_}
 use native.Mathlib.Omega.{arith}
 use lib.ListN.{length}
@@ -11,11 +11,10 @@ use Rattle.sizes.specs.Size.{size}
 use Rattle.ranking.specs.Unrank.{unrank as Unrank·unrank}
 use Rattle.ranking.proofs.Inverse.{rank-unrank}
 use Rattle.morris.specs.Refusals.{refusal}
-use Rattle.morris.specs.Conditions.{countsPicks, rankPicks}
-use Rattle.morris.specs.Answers.{accepted, refused}
+use Rattle.morris.specs.Conditions.{countsPicks}
 use Rattle.morris.specs.UnrankCall.{unrankCall, unrankTarget}
 use Rattle.morris.proofs.Conditions.{AcceptedCounts, accepted-counts, counts-refused, rank-refused, rank-passed}
-use Rattle.morris.proofs.Answering.{answer-refused, answer-accepted, target-kept, target-written}
+use Rattle.morris.proofs.Answering.{turned-back, written}
 use Rattle.morris.proofs.unrank.Statement.{statement}
 use Rattle.morris.proofs.unrank.Tie as tie
 
@@ -39,27 +38,16 @@ table-size c =
     let a = x .before .before .before .args in
     c .size .ensures ∙ ap (λ (n : ℕ). size n (a .mover) (a .opponent)) (counts-accepted x .points)
 
--- the two ways out: turned back with a number, and written
-module _ (rings m o r : ℕ) (old : List ℕ) where
-  turned-back : (n : ℕ) → (n ≡ 0 → ⊥) → n ≡ refusal (rankPicks rings m o r (length old))
-      → (refused n ≡ unrankCall rings m o r old) × (old ≡ unrankTarget rings m o r old)
-  unfolding unrankCall unrankTarget
-  turned-back n z e = (answer-refused n (refusal (rankPicks rings m o r (length old))) [] z e, target-kept n _ (Unrank·unrank (8 * rings) m o r) old z e)
-
-  written : (new : List ℕ) → 0 ≡ refusal (rankPicks rings m o r (length old)) → new ≡ Unrank·unrank (8 * rings) m o r
-      → (accepted [] ≡ unrankCall rings m o r old) × (new ≡ unrankTarget rings m o r old)
-  unfolding unrankCall unrankTarget
-  written new z e = (answer-accepted (refusal (rankPicks rings m o r (length old))) [] z, e ∙ target-written _ (Unrank·unrank (8 * rings) m o r) old z)
-
 of-counts-requires : tie.Need-of-counts-requires
 of-counts-requires c κs = search needs
 
 returns : tie.Need-returns
+unfolding unrankCall unrankTarget
 returns c =
     let a = c .before .before .before .args in
     let e = counts-refused (a .rings) (a .mover) (a .opponent) (a .rank) (length (a .target .now)) (c .before .of-counts .result) (c .if1 .taken)
     (c .before .of-counts .ensures) in
-    turned-back (a .rings) (a .mover) (a .opponent) (a .rank) (a .target .now) (c .before .of-counts .result) (c .if1 .taken) e
+    turned-back _ _ _ _ (c .before .of-counts .result) (c .if1 .taken) e
 
 binomial-table-requires : tie.Need-binomial-table-requires
 binomial-table-requires c κs = search needs
@@ -70,11 +58,12 @@ size-requires c κs =
     (c .before .binomial-table .ensures, omega (arith, w .points, w .rings-high, w .counted .mover-high, w .counted .opponent-high))
 
 returns-2 : tie.Need-returns-2
+unfolding unrankCall unrankTarget
 returns-2 c =
     let x = c .before .before .before .before in
     let a = x .before .before .before .args in
     let h : size (8 * a .rings) (a .mover) (a .opponent) ≤ a .rank = omega (arith, table-size (c .before)) in
-    turned-back (a .rings) (a .mover) (a .opponent) (a .rank) (a .target .now) 5 (λ e. absurd (omega arith))
+    turned-back _ _ _ _ 5 (λ e. absurd (omega arith))
     (rank-refused (a .rings) (a .mover) (a .opponent) (a .rank) (length (a .target .now)) (passed-counts x) h)
 
 unrank-requires : tie.Need-unrank-requires
@@ -93,6 +82,7 @@ same-length : tie.Need-same-length
 same-length c = search needs
 
 returns-3 : tie.Need-returns-3
+unfolding unrankCall unrankTarget
 returns-3 c =
     let u = c .before .before .before .before in
     let y = u .before .before in
@@ -106,8 +96,8 @@ returns-3 c =
     u .unrank .ensures ∙ ap (λ (n : ℕ). positionOf (Unrank·unrank n (a .mover) (a .opponent) (a .rank))) (w .points) in
     let e : c .before .before .write-board .last .1 .0 ≡ new =
     c .before .before .write-board .ensures ∙ ap₂ boardOf (w .points ∙ sym (v .points)) p ∙ board-position new (v .values) in
-    written (a .rings) (a .mover) (a .opponent) (a .rank) (a .target .now) (c .before .before .write-board .last .1 .0)
-    (rank-passed (a .rings) (a .mover) (a .opponent) (a .rank) (length (a .target .now)) (passed-counts x) low) e
+    written _ _ _ _ _ _
+    (rank-passed (a .rings) (a .mover) (a .opponent) (a .rank) (length (a .target .now)) (passed-counts x) low) refl e
 
 pub unrank-spec : {M : Type 1} → statement M
 unrank-spec =

@@ -1,41 +1,20 @@
 -- `morris::write_frame` meets its contract: a refusal of the board's picks, then of the target, or the frame. Assumes nothing.
 use mathlib.Core.Path.{_≡_, sym, ap, _∙_}
 use mathlib.Core.Bool.{Bool, cond}
-use mathlib.Core.List.{List, [], _∷_}
+use mathlib.Core.List.{[], _∷_}
 use Prim.Native.Nat.{ℕ}
 use native.Mathlib.Omega.{arith}
 use lib.ListN.{length}
-use lib.Seq.{sets}
 use borrow.Author.Tests.{lt-ltb, le-ltb}
 use borrow.Author.Needs.{needs}
-use Rattle.frames.specs.Frame.{frameLength, frameOf}
+use Rattle.frames.specs.Frame.{frameLength}
 use Rattle.morris.specs.Refusals.{refusal}
-use Rattle.morris.specs.Conditions.{boardPicks, shortPicks}
-use Rattle.morris.specs.Answers.{accepted, refused}
+use Rattle.morris.specs.Conditions.{boardPicks}
 use Rattle.morris.specs.WriteFrameCall.{writeFrameCall, writeFrameTarget}
 use Rattle.morris.proofs.Conditions.{accepted-board, short-refused, short-decides}
-use Rattle.morris.proofs.Answering.{answer-refused, answer-accepted, target-kept, target-written}
+use Rattle.morris.proofs.Answering.{turned-back, written}
 use Rattle.morris.proofs.write_frame.Statement.{statement}
 use Rattle.morris.proofs.write_frame.Tie as tie
-
--- the two ways out: turned back with a number, and written
-module _ (rings : ℕ) (b old : List ℕ) where
-  turned-back : (n : ℕ) → (n ≡ 0 → ⊥) → n ≡ refusal (shortPicks rings b (length old) (frameLength rings))
-      → (refused n ≡ writeFrameCall rings b old) × (old ≡ writeFrameTarget rings b old)
-  unfolding writeFrameCall writeFrameTarget
-  turned-back n z e = (
-    answer-refused n (refusal (shortPicks rings b (length old) (frameLength rings))) (frameLength rings ∷ []) z e,
-    target-kept n (refusal (shortPicks rings b (length old) (frameLength rings))) (sets old 0 (frameOf rings b)) old z e,
-  )
-
-  written : (n : ℕ) (new : List ℕ) → 0 ≡ refusal (shortPicks rings b (length old) (frameLength rings)) → n ≡ frameLength rings → new
-      ≡ sets old 0 (frameOf rings b)
-      → (accepted (n ∷ []) ≡ writeFrameCall rings b old) × (new ≡ writeFrameTarget rings b old)
-  unfolding writeFrameCall writeFrameTarget
-  written n new z l e = (
-    ap (λ (k : ℕ). accepted (k ∷ [])) l ∙ answer-accepted (refusal (shortPicks rings b (length old) (frameLength rings))) (frameLength rings ∷ []) z,
-    e ∙ target-written (refusal (shortPicks rings b (length old) (frameLength rings))) (sets old 0 (frameOf rings b)) old z,
-  )
 
 -- past the first refusals, the board is accepted
 passed-board : (c : tie.Else1)
@@ -46,22 +25,24 @@ of-board-requires : tie.Need-of-board-requires
 of-board-requires c κs = search needs
 
 returns : tie.Need-returns
+unfolding writeFrameCall writeFrameTarget
 returns c =
     let a = c .before .before .before .before .args in
     let n = c .before .of-board .result in
-    turned-back (a .rings) (a .board .now) (a .target .now) n (c .if1 .taken)
+    turned-back _ _ _ _ n (c .if1 .taken)
     (short-refused (a .rings) (a .board .now) (length (a .target .now)) (frameLength (a .rings)) n (c .if1 .taken) (c .before .of-board .ensures))
 
 frame-length-requires : tie.Need-frame-length-requires
 frame-length-requires c κs = search needs
 
 returns-2 : tie.Need-returns-2
+unfolding writeFrameCall writeFrameTarget
 returns-2 c =
     let x = c .before .before in
     let a = x .before .before .before .before .args in
     let n = length (a .target .now) in
     let short = lt-ltb n (frameLength (a .rings)) (omega (arith, c .if2 .taken, c .before .frame-length .ensures)) in
-    turned-back (a .rings) (a .board .now) (a .target .now) 7 (λ z. absurd (omega arith))
+    turned-back _ _ _ _ 7 (λ z. absurd (omega arith))
     (sym (short-decides (a .rings) (a .board .now) n (frameLength (a .rings)) (passed-board x) ∙ ap (λ (t : Bool). cond t 7 0) short))
 
 write-requires : tie.Need-write-requires
@@ -76,15 +57,16 @@ same-length : tie.Need-same-length
 same-length c = search needs
 
 returns-3 : tie.Need-returns-3
+unfolding writeFrameCall writeFrameTarget
 returns-3 c =
     let y = c .before .before .before .before in
     let x = y .before .before in
     let a = x .before .before .before .before .args in
     let n = length (a .target .now) in
     let fits = le-ltb n (frameLength (a .rings)) (omega (arith, y .if2 .left, y .before .frame-length .ensures)) in
-    written (a .rings) (a .board .now) (a .target .now) (y .before .frame-length .result) (c .before .before .write .last .1 .1 .0)
+    written _ _ _ _ _ _
     (sym (short-decides (a .rings) (a .board .now) n (frameLength (a .rings)) (passed-board x) ∙ ap (λ (t : Bool). cond t 7 0) fits))
-    (y .before .frame-length .ensures) (c .before .before .write .ensures)
+    (ap (λ (k : ℕ). k ∷ []) (y .before .frame-length .ensures)) (c .before .before .write .ensures)
 
 pub write-frame-spec : {M : Type 1} → statement M
 write-frame-spec =
