@@ -45,6 +45,11 @@ module _ {A : Type 0} where
   any f [] = false
   any f (x ∷ xs) = elim (f x) [ true ↦ true | false ↦ any f xs ]
 
+  -- no member
+  abbrev pub isEmpty : List A → Bool
+  isEmpty [] = true
+  isEmpty (x ∷ xs) = false
+
   -- the first list, or the second where the first is empty
   abbrev pub orElse : List A → List A → List A
   orElse [] other = other
