@@ -1,12 +1,9 @@
 -- Entries of boards in a tablebase: by the number of the mover's stones, after one entry is written, and where a fill leaves them alone.
 -- Assumes nothing.
 use mathlib.Core.Path.{_≡_, refl, sym, ap, subst, _∙_}
-use mathlib.Core.Bool.{true, false, true≢false}
+use mathlib.Core.Bool.{false, true≢false}
 use mathlib.Core.List.{List}
-use mathlib.Core.Logic.{_⊎_, inl, inr}
 use Prim.Native.Nat.{ℕ, _+_, _*_, _≤_, _<_}
-use native.Mathlib.Decide.{ℕ-discrete}
-use native.Mathlib.Omega.{arith}
 use lib.ListN.{length, getD, set, length-set}
 use lib.Seq.{getD-set-same, getD-set-other}
 use borrow.Author.Tests.{lt-ltb, le-ltb}
@@ -14,12 +11,12 @@ use Rattle.board.specs.Board.{count}
 use Rattle.sizes.specs.Size.{size}
 use Rattle.ranking.specs.Rank.{rank}
 use Rattle.ranking.specs.Unrank.{unrank}
-use Rattle.layout.specs.Layout.{start, tablebaseLength}
+use Rattle.layout.specs.Layout.{start}
 use Rattle.outcomes.specs.Places.{place, entryAt, successorEntry}
 use Rattle.outcomes.specs.Pair.{inPair}
 use Rattle.outcomes.specs.Filled.{BothTables, Kept}
-use Rattle.outcomes.proofs.Ranked.{InTable, Standing, unrank-in, unrank-of, rank-in, place-at, place-unrank, own-table, standing-low, standing-one}
-use Rattle.outcomes.proofs.PairGame.{Pair, OnPair, InPair, pair-table, in-pair, stands, stands-own}
+use Rattle.outcomes.proofs.Ranked.{Standing, unrank-in, place-unrank, standing-one}
+use Rattle.outcomes.proofs.PairGame.{Pair, OnPair, pair-table, in-pair, stands, stands-own}
 
 module _ (rings k : ℕ) (tablebase b : List ℕ) where
   pub entry-place : entryAt rings k tablebase b ≡ getD tablebase (place rings k b) 0

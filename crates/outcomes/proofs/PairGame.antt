@@ -1,5 +1,5 @@
 -- The game of a pair: which boards its plies reach, and what is given of them. Assumes nothing.
-use mathlib.Core.Path.{_≡_, refl, sym, ap, subst, _∙_}
+use mathlib.Core.Path.{_≡_, refl, sym, subst, _∙_}
 use mathlib.Core.Bool.{Bool, true, false, _&&_, _||_}
 use mathlib.Core.List.{List, List·Memᴰ}
 use mathlib.Core.Logic.{_⊎_, inl, inr}
@@ -8,12 +8,12 @@ use native.Mathlib.Omega.{arith}
 use lib.Dec.{eqb, ltb}
 use lib.ListN.{length}
 use borrow.Author.Tests.{ltb-true, ltb-false, lt-ltb, le-ltb, eqb-true, eqb-false, eq-eqb, ne-eqb}
-use Rattle.lists.proofs.Tests.{and-left, and-right, and-both}
+use Rattle.lists.proofs.Tests.{and-left, and-right}
 use Rattle.board.specs.Board.{Values, count}
 use Rattle.rules.specs.Ply.{removable, afterPly, removedOf}
 use Rattle.rules.proofs.Listed.{successor-of, removable-takes}
-use Rattle.rules.proofs.Leads.{Leads, MoverLeft, ply-leads, Reached}
-use Rattle.game.specs.Game.{Seed, live, ends, drawn, drawEntry}
+use Rattle.rules.proofs.Leads.{Leads, MoverLeft, ply-leads}
+use Rattle.game.specs.Game.{live, ends, drawn, drawEntry}
 use Rattle.outcomes.specs.Places.{entryAt}
 use Rattle.outcomes.specs.Whole.{next}
 use Rattle.outcomes.specs.Pair.{inPair, given, pairSeed}

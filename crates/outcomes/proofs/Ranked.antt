@@ -1,16 +1,15 @@
 -- Boards of a tablebase and its places: the board of a rank stands at that rank's place in its table, each board of the tablebase at a place of
 -- its own. Assumes nothing.
-use mathlib.Core.Path.{_≡_, refl, sym, ap, ap₂, subst, _∙_}
+use mathlib.Core.Path.{_≡_, refl, sym, ap, _∙_}
 use mathlib.Core.List.{List}
 use Prim.Native.Nat.{ℕ, _+_, _*_, _≤_, _<_}
-use native.Mathlib.Omega.{arith}
 use lib.ListN.{length}
 use Rattle.board.specs.Board.{Values, count}
 use Rattle.sizes.specs.Size.{size}
 use Rattle.sizes.proofs.Multinomials.{stones-few}
 use Rattle.ranking.specs.Rank.{rank}
 use Rattle.ranking.specs.Unrank.{unrank}
-use Rattle.ranking.proofs.Inverse.{BoardOf, rank-unrank, unrank-rank, rank-one, rank-low}
+use Rattle.ranking.proofs.Inverse.{rank-unrank, unrank-rank, rank-one, rank-low}
 use Rattle.layout.specs.Layout.{start, tablebaseLength}
 use Rattle.layout.proofs.OneToOne.{IsTable, PlaceOf, place-low, place-one}
 use Rattle.rules.proofs.Leads.{Reached}

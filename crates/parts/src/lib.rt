@@ -1,0 +1,82 @@
+// One table's part of a tablebase: the places from its start on and below its end. The function that writes entries is lent that part alone.
+ghost use mathlib.Core.Path.{_≡_};
+ghost use Prim.Native.Nat.{_+_, _≤_, _<_};
+ghost use lib.Dec.{eqb};
+ghost use lib.ListN.{length, set, replicate};
+ghost use Rattle.lists.specs.Lists.{any};
+ghost use Rattle.game.specs.Game.{voidEntry};
+ghost use Rattle.parts.specs.Parts.{partOf, filledPart, lower, leastFrom};
+
+// An entry that is void.
+const VOID: u16 = 65534;
+
+// Every entry of a part is v.
+fn fill(part: &mut [u16], v: u16)
+    ensures { λ _. ⌜ now (part .exit) ≡ replicate (length (now (part .entry))) v ⌝ }
+{
+    let mut i = 0;
+    while i < part.len() {
+        part[i] = v;
+        i += 1;
+    }
+}
+
+// The entry at place r of a part is v.
+fn write(part: &mut [u16], r: usize, v: u16)
+    requires { ⌜ r < length (now part) ⌝ }
+    ensures { λ _. ⌜ now (part .exit) ≡ set (now (part .entry)) r v ⌝ }
+{
+    part[r] = v;
+}
+
+// Fills a table with one value.
+pub fn fill_table(tablebase: &mut [u16], start: usize, end: usize, v: u16)
+    requires { ⌜ (start ≤ end) × (end ≤ length (now tablebase)) ⌝ }
+    ensures { λ _. ⌜ now (tablebase .exit) ≡ filledPart start end v (now (tablebase .entry)) ⌝ }
+{
+    fill(&mut tablebase[start..end], v);
+}
+
+// Writes the entry of rank r of a table.
+pub fn write_entry(tablebase: &mut [u16], start: usize, end: usize, r: usize, v: u16)
+    requires { ⌜ (start + r < end) × (end ≤ length (now tablebase)) ⌝ }
+    ensures { λ _. ⌜ now (tablebase .exit) ≡ set (now (tablebase .entry)) (start + r) v ⌝ }
+{
+    write(&mut tablebase[start..end], r, v);
+}
+
+// The lower of two entries, if the second is not below `low`.
+fn lower(least: u16, e: u16, low: u16) -> u16
+    ensures { λ r. ⌜ r ≡ lower least e low ⌝ }
+{
+    if (low <= e) & (e < least) {
+        return e;
+    }
+    least
+}
+
+// The least depth from `low` on among the entries of a part, void where there is none.
+pub fn least_from(part: &[u16], low: u16) -> u16
+    ensures { λ r. ⌜ r ≡ leastFrom low (now (part .entry)) ⌝ }
+{
+    let mut least = VOID;
+    let mut i = part.len();
+    while 0 < i {
+        i -= 1;
+        least = lower(least, part[i], low);
+    }
+    least
+}
+
+// Whether an entry of a part is void.
+pub fn has_void(part: &[u16]) -> bool
+    ensures { λ r. ⌜ r ≡ any (λ e. eqb e voidEntry) (now (part .entry)) ⌝ }
+{
+    let mut found = false;
+    let mut i = part.len();
+    while 0 < i {
+        i -= 1;
+        found = (part[i] == VOID) | found;
+    }
+    found
+}
