@@ -23,6 +23,16 @@ pub record IsTable (points k m o : ℕ) : Type 0 where
   pub opponent-high : o ≤ k
   pub stones-fit : m + o ≤ points
 
+-- counts of a table, whether or not its stones fit the points
+pub record InRange (k m o : ℕ) : Type 0 where
+  pub mover-low : 3 ≤ m
+  pub mover-high : m ≤ k
+  pub opponent-low : 3 ≤ o
+  pub opponent-high : o ≤ k
+
+pub in-range : {points k m o : ℕ} → IsTable points k m o → InRange k m o
+in-range w = record { mover-low = w .mover-low; mover-high = w .mover-high; opponent-low = w .opponent-low; opponent-high = w .opponent-high }
+
 -- those are the tables that are listed
 pub table-listed : (points k m o : ℕ) → IsTable points k m o → List·Memᴰ (table m o) (tables points k)
 unfolding tables
@@ -57,7 +67,7 @@ pub record PlaceOf (points k m o r x : ℕ) : Type 0 where
   pub at : start points k m o + r ≡ x
 
 module _ (points k : ℕ) where
-  starts : {m o : ℕ} → IsTable points k m o → start points k m o ≡ rowsPart points k (m - 3) + rowPart points m (o - 3)
+  starts : {m o : ℕ} → InRange k m o → start points k m o ≡ rowsPart points k (m - 3) + rowPart points m (o - 3)
   starts {m} {o} w = start-is points k m o (w .mover-low) (w .mover-high) (w .opponent-low) (w .opponent-high)
 
   -- a table ends before a later one of its row starts, and within its row
@@ -69,7 +79,7 @@ module _ (points k : ℕ) where
   in-rows i j h = part-before (rowsPart points k) (λ n. entries points (row k (3 + n))) refl (rows-more points k) h
 
   -- the end of a table within its row
-  row-room : {m o : ℕ} → IsTable points k m o → rowPart points m (o - 3) + size points m o ≤ rowPart points m (k - 2)
+  row-room : {m o : ℕ} → InRange k m o → rowPart points m (o - 3) + size points m o ≤ rowPart points m (k - 2)
   row-room {m} {o} w =
       let e : 3 + (o - 3) ≡ o = omega (arith, w .opponent-low) in
       subst (λ (x : ℕ). rowPart points m (o - 3) + size points m x ≤ rowPart points m (k - 2)) e
@@ -80,18 +90,27 @@ module _ (points k : ℕ) where
       let e : 3 + (m - 3) ≡ m = omega arith in
       subst (λ (x : ℕ). rowsPart points k (m - 3) + rowPart points x (k - 2) ≤ rowsPart points k j) e (in-rows (m - 3) j h)
 
-  -- each table lies within the tablebase
-  pub end-low : {m o : ℕ} → IsTable points k m o → end points k m o ≤ tablebaseLength points k
+  -- each table lies within the tablebase, an empty one too
+  pub end-within : {m o : ℕ} → InRange k m o → end points k m o ≤ tablebaseLength points k
   unfolding end
-  end-low {m} {o} w =
+  end-within {m} {o} w =
       omega (arith, starts w, row-room w, length-is points k, rows-room m (k - 2) (w .mover-low) (omega (arith, w .mover-low, w .mover-high)))
+
+  pub end-low : {m o : ℕ} → IsTable points k m o → end points k m o ≤ tablebaseLength points k
+  end-low w = end-within (in-range w)
 
   -- tables do not overlap: an earlier one ends before a later one starts
   pub tables-apart : {m o m′ o′ : ℕ} → IsTable points k m o → IsTable points k m′ o′ → earlier m′ o′ (table m o) ≡ true
       → end points k m o ≤ start points k m′ o′
   unfolding end
-  tables-apart {m} {o} {m′} {o′} w w′ e = go (ltb m m′) refl (eqb m m′) refl e
+  tables-apart {m} {o} {m′} {o′} v v′ e = go (ltb m m′) refl (eqb m m′) refl e
     where
+      w : InRange k m o
+      w = in-range v
+
+      w′ : InRange k m′ o′
+      w′ = in-range v′
+
       go : (a : Bool) → ltb m m′ ≡ a → (b : Bool) → eqb m m′ ≡ b → (a || (b && ltb o o′)) ≡ true
           → start points k m o + size points m o ≤ start points k m′ o′
       go true p b q r =
@@ -137,7 +156,7 @@ module _ (points k : ℕ) where
         mover = m;
         opponent = o;
         rank = b .offset;
-        place = record { is-table = w; rank-low = b .offset-low; at = omega (arith, rw (e, f) at (starts w), a .at, b .at) };
+        place = record { is-table = w; rank-low = b .offset-low; at = omega (arith, rw (e, f) at (starts (in-range w)), a .at, b .at) };
       }
 
   -- and of one only

@@ -1,3 +1,7 @@
+-- `solver::tables::lower_part` meets its contract. Assumes nothing.
+use mathlib.Core.Path.{_≡_, refl, _∙_}
+use borrow.Author.Tests.{eq-eqb, ne-eqb}
+use Rattle.solver.specs.Tables.{lowerStart, lowerEnd}
 use borrow.Author.Needs.{needs}
 use Rattle.solver.proofs.tables.lower_part.Statement.{statement}
 use Rattle.solver.proofs.tables.lower_part.Tie as tie
@@ -5,21 +9,24 @@ use Rattle.solver.proofs.tables.lower_part.Reads as reads
 use Rattle.solver.proofs.tables.lower_part.Lts as lts
 use Rattle.solver.proofs.tables.part_of.Reads as part-of-reads
 
--- src/tables.rt:40:9
 returns : tie.Need-returns
-returns c = ?
+unfolding lowerStart lowerEnd
+returns c =
+    let e = eq-eqb (c .before .args .o) 3 (c .if1 .taken) in
+    (rw (e, lowerStart), rw (e, lowerEnd))
 
--- src/tables.rt:42:35
 sub-part-of : tie.Need-sub-part-of
 sub-part-of c = search needs
 
--- src/tables.rt:42:5
 part-of-requires : tie.Need-part-of-requires
 part-of-requires c κs = search needs
 
--- src/tables.rt:34:1
 returns-2 : tie.Need-returns-2
-returns-2 c = ?
+unfolding lowerStart lowerEnd
+returns-2 c =
+    let s = c .before in
+    let e = ne-eqb (s .before .args .o) 3 (s .if1 .left) in
+    (c .part-of .ensures .0 ∙ rw (e, lowerStart), c .part-of .ensures .1 ∙ rw (e, lowerEnd))
 
 pub lower-part-spec : {M : Type 1} → statement M
 lower-part-spec = tie.close (tie.spec returns sub-part-of part-of-requires returns-2)
