@@ -38,9 +38,12 @@ module _ {Pos : Type 0} (next : Pos → List Pos) (t : Pos → ℕ) (n : ℕ) (p
       go true f = rw (f, h, visit)
       go false f = rw (f, visit)
 
-  pub visit-known : t p < drawEntry → visit next t n p ≡ t p
+  pub visit-closed : (t p ≡ drawEntry → ⊥) → visit next t n p ≡ t p
   unfolding visit
-  visit-known l = let f : eqb (t p) drawEntry ≡ false = ne-eqb (t p) drawEntry (λ h. omega arith) in rw (f, visit)
+  visit-closed h = rw (ne-eqb (t p) drawEntry h, visit)
+
+  pub visit-known : t p < drawEntry → visit next t n p ≡ t p
+  visit-known l = visit-closed (λ h. omega arith)
 
 module _ {Pos : Type 0} (next : Pos → List Pos) (seed : Pos → Seed) (S : Pos → Type 0) (g : Ground next seed S) (t : Pos → ℕ) where
   -- what level n hits has ended within n

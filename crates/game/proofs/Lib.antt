@@ -7,3 +7,4 @@ pub mod Hits
 pub mod Entries
 pub mod Stopping
 pub mod Levels
+pub mod Agree

@@ -2,3 +2,4 @@ pub mod Ranked
 pub mod PairGame
 pub mod Entries
 pub mod Unique
+pub mod PairLevels
