@@ -6,7 +6,7 @@ use mathlib.Core.Logic.{_⊎_, inl, inr}
 use Prim.Native.Nat.{ℕ}
 use lib.Dec.{eqb}
 use borrow.Author.Tests.{eqb-true, eq-eqb}
-use Rattle.lists.specs.Lists.{keep, all, any, each, member}
+use Rattle.lists.specs.Lists.{keep, all, any, each, member, isEmpty}
 
 -- tests that pass together are the same
 pub same-test : (a b : Bool) → (a ≡ true → b ≡ true) → (b ≡ true → a ≡ true) → a ≡ b
@@ -17,6 +17,10 @@ same-test false false h k = refl
 pub untrue : (b : Bool) → (b ≡ true → ⊥) → false ≡ b
 untrue true h = absurd (h refl)
 untrue false h = refl
+
+-- no test both passes and fails
+pub clash : {C : Type 0} {b : Bool} → b ≡ true → b ≡ false → C
+clash p q = absurd (true≢false (sym p ∙ q))
 
 pub and-left : (a b : Bool) → (a && b) ≡ true → a ≡ true
 and-left true b e = refl
@@ -37,6 +41,18 @@ or-left true b e = e
 pub or-right : (a b : Bool) → (a || b) ≡ false → b ≡ false
 or-right false b e = e
 or-right true b e = absurd (true≢false e)
+
+pub or-cases : (a b : Bool) → (a || b) ≡ true → (a ≡ true) ⊎ (b ≡ true)
+or-cases true b e = inl refl
+or-cases false b e = inr e
+
+pub left-or : (a b : Bool) → a ≡ true → (a || b) ≡ true
+left-or true b e = refl
+left-or false b e = absurd (false≢true e)
+
+pub right-or : (a b : Bool) → b ≡ true → (a || b) ≡ true
+right-or true b e = refl
+right-or false b e = e
 
 pub member-is : (x : ℕ) (l : List ℕ) → member x l ≡ true → List·Memᴰ x l
 member-is x [] e = absurd (false≢true e)
@@ -153,3 +169,36 @@ module _ {A : Type 0} (f : A → Bool) where
   pub member-all : (l : List A) → ((x : A) → List·Memᴰ x l → f x ≡ true) → all f l ≡ true
   member-all [] h = refl
   member-all (y ∷ ys) h = rw (h y (List·Memᴰ·head refl), all) (member-all ys (λ x m. h x (List·Memᴰ·tail m)))
+
+  -- none passes, or one fails
+  pub any-none : (l : List A) → any f l ≡ false → (x : A) → List·Memᴰ x l → f x ≡ false
+  any-none l e x m = sym (untrue (f x) (λ t. clash (member-any l m t) e))
+
+  pub none-any : (l : List A) → ((x : A) → List·Memᴰ x l → f x ≡ false) → any f l ≡ false
+  none-any l h = sym (untrue (any f l) (λ t. let s = any-member l t in clash (s .2) (h (s .0) (s .1))))
+
+  pub all-fails : (l : List A) → all f l ≡ false → (x : A) × List·Memᴰ x l × (f x ≡ false)
+  all-fails [] e = absurd (true≢false e)
+  all-fails (y ∷ ys) e = go (f y) refl e (all-fails ys)
+    where
+      go : (b : Bool) → f y ≡ b → all f (y ∷ ys) ≡ false → (all f ys ≡ false → (x : A) × List·Memᴰ x ys × (f x ≡ false))
+          → (x : A) × List·Memᴰ x (y ∷ ys) × (f x ≡ false)
+      go true q e r = let s = r (rw (q, all) at e) in (s .0, List·Memᴰ·tail (s .1), s .2)
+      go false q e r = (y, List·Memᴰ·head refl, q)
+
+  pub fails-all : (l : List A) {x : A} → List·Memᴰ x l → f x ≡ false → all f l ≡ false
+  fails-all l {x} m e = sym (untrue (all f l) (λ t. clash (all-member f l t x m) e))
+
+-- no member, or one
+module _ {A : Type 0} where
+  pub empty-none : (l : List A) → isEmpty l ≡ true → {x : A} → List·Memᴰ x l → ⊥
+  empty-none [] e m = List·Memᴰ·not-nil m
+  empty-none (y ∷ ys) e m = false≢true e
+
+  pub none-empty : (l : List A) → ((x : A) → List·Memᴰ x l → ⊥) → isEmpty l ≡ true
+  none-empty [] h = refl
+  none-empty (y ∷ ys) h = absurd (h y (List·Memᴰ·head refl))
+
+  pub first-member : (l : List A) → isEmpty l ≡ false → (x : A) × List·Memᴰ x l
+  first-member [] e = absurd (true≢false e)
+  first-member (y ∷ ys) e = (y, List·Memᴰ·head refl)

@@ -1,0 +1,4 @@
+pub mod Least
+pub mod Within
+pub mod Steps
+pub mod Depths
