@@ -1,3 +1,4 @@
+pub mod After
 pub mod Derived
 pub mod FullMills
 pub mod Numbers

@@ -14,6 +14,7 @@ use Rattle.board.proofs.Sides.{length-board, board-values}
 use Rattle.sizes.specs.Size.{size}
 use Rattle.ranking.specs.Rank.{rank}
 use Rattle.ranking.proofs.Inverse.{rank-low}
+use Rattle.rules.proofs.Leads.{MoverLeft, Leads}
 use Rattle.plies.specs.Positions.{Placed}
 use Rattle.probing.specs.Probes.{probe, Left, Reads}
 
@@ -54,3 +55,11 @@ place-low rings position placed start room h =
     subst (λ (n : ℕ). rank b < size n (count 1 b) (count 2 b)) (length-board (8 * rings) position)
     (rank-low b (board-values (8 * rings) position (placed .on))) in
     omega (arith, h, l)
+
+-- a ply leaves a side its stones, or all but one
+pub left-of : {b c : List ℕ} {removed : ℕ} → Leads b c removed → Left (count 2 b) (count 1 c)
+left-of {b} {c} {removed} l = go (l .mover)
+  where
+    go : MoverLeft b c removed → Left (count 2 b) (count 1 c)
+    go (inl q) = inl (q .1)
+    go (inr q) = inr (q .1)
