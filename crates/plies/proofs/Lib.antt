@@ -3,4 +3,5 @@ pub mod Derived
 pub mod FullMills
 pub mod Numbers
 pub mod OnPositions
+pub mod SomeMove
 pub mod Stones
