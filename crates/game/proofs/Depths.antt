@@ -4,35 +4,17 @@ use mathlib.Core.Path.{_≡_, refl, sym, _∙_}
 use mathlib.Core.Bool.{Bool, true, false}
 use mathlib.Core.List.{List, List·Memᴰ}
 use mathlib.Core.Logic.{_⊎_, inl, inr}
-use Prim.Native.Nat.{ℕ, zero, suc, _≤_, _<_, _%_}
+use Prim.Native.Nat.{ℕ, zero, suc, _<_, _%_}
 use native.Mathlib.Omega.{arith}
 use lib.Dec.{leb, eqb}
 use borrow.Author.Tests.{leb-true, leb-false, eqb-true, eqb-false}
 use Rattle.lists.proofs.Tests.{clash, untrue, same-test}
 use Rattle.game.specs.Game.{Seed, live, ends, drawn, wonBy, lostBy, won, lost, ended, WonIn, LostIn, Depth, Draw, Entry}
 use Rattle.game.proofs.Least.{mono-le, mono-below, least-unique, least-find}
-use Rattle.game.proofs.Within.{
-  wonBy-is,
-  wonBy-of,
-  lostBy-is,
-  lostBy-of,
-  won-ends,
-  won-drawn,
-  lost-ends,
-  lost-drawn,
-  by-plies,
-  won-mono,
-  lost-mono,
-  ended-mono,
-  never-both,
-  won-ended,
-  lost-ended,
-  ended-cases,
-  not-ended,
-  open-not-won,
-  open-not-lost,
-}
-use Rattle.game.proofs.Steps.{win-step, loss-step, win-takes-one}
+use Rattle.game.proofs.Within.{wonBy-is, wonBy-of, lostBy-is, lostBy-of, won-zero, won-ends, won-drawn, lost-ends, lost-drawn}
+use Rattle.game.proofs.Within.{by-plies, won-mono, lost-mono, ended-mono, never-both}
+use Rattle.game.proofs.Within.{won-ended, lost-ended, ended-cases, not-ended, open-not-won, open-not-lost}
+use Rattle.game.proofs.Steps.{win-step, loss-step}
 
 module _ {Pos : Type 0} (next : Pos → List Pos) (seed : Pos → Seed) where
   -- a given depth is the least n
@@ -61,7 +43,7 @@ module _ {Pos : Type 0} (next : Pos → List Pos) (seed : Pos → Seed) where
   parity = by-plies next seed (λ n p. Parity n p)
       ends-parity
       (λ n p e. (λ a. clash (a .holds) (won-drawn next seed n p e), λ a. clash (a .holds) (lost-drawn next seed n p e)))
-      (λ p e. (λ a. absurd (win-takes-one next seed p e a), λ a. refl))
+      (λ p e. (λ a. clash (a .holds) (won-zero next seed p e), λ a. refl))
       (λ n r p e. (
         λ a. let s = win-step next seed n p e a in omega (arith, r (s .to) .1 (s .lost-in)),
         λ a. let s = loss-step next seed n p e a in omega (arith, r (s .to) .0 (s .won-in)),
@@ -137,12 +119,15 @@ module _ {Pos : Type 0} (next : Pos → List Pos) (seed : Pos → Seed) where
   entry-unique {e} {f} p (inr a) (inl b) = clash (b .1 .holds) (a .1 f)
   entry-unique p (inr a) (inr b) = a .0 ∙ sym (b .0)
 
-  -- a depth below n, or open within fewer than n plies
-  pub sooner : (n : ℕ) (p : Pos) → ((k : ℕ) × (k < n) × Depth next seed k p) ⊎ ((k : ℕ) → k < n → ended next seed k p ≡ false)
-  sooner zero p = inr (λ k l. absurd (omega arith))
-  sooner (suc n) p = go (ended next seed n p) refl
+  -- open within fewer than n plies
+  abbrev pub NotBefore : ℕ → Pos → Type 0
+  NotBefore n p = (k : ℕ) → k < n → ended next seed k p ≡ false
+
+  pub before-or-not : (n : ℕ) (p : Pos) → ((k : ℕ) × (k < n) × Depth next seed k p) ⊎ NotBefore n p
+  before-or-not zero p = inr (λ k l. absurd (omega arith))
+  before-or-not (suc n) p = go (ended next seed n p) refl
     where
-      go : (b : Bool) → ended next seed n p ≡ b → ((k : ℕ) × (k < suc n) × Depth next seed k p) ⊎ ((k : ℕ) → k < suc n → ended next seed k p ≡ false)
+      go : (b : Bool) → ended next seed n p ≡ b → ((k : ℕ) × (k < suc n) × Depth next seed k p) ⊎ NotBefore (suc n) p
       go true e = let s = least-find _ (ended-mono next seed p) n e in inl (s .0, omega (arith, s .1), s .2)
       go false e = inr (λ k l. mono-below _ (ended-mono next seed p) (omega arith) e)
 

@@ -2,3 +2,8 @@ pub mod Least
 pub mod Within
 pub mod Steps
 pub mod Depths
+pub mod Tables
+pub mod Hits
+pub mod Entries
+pub mod Stopping
+pub mod Levels

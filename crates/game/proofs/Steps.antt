@@ -6,9 +6,10 @@ use mathlib.Core.List.{List, List·Memᴰ}
 use Prim.Native.Nat.{ℕ, zero, suc, _<_}
 use native.Mathlib.Omega.{arith}
 use Rattle.lists.specs.Lists.{isEmpty}
-use Rattle.lists.proofs.Tests.{clash, untrue, any-member, member-any, all-member, member-all, any-none, none-any, all-fails, fails-all, empty-none, first-member}
+use Rattle.lists.proofs.Tests.{untrue, any-member, member-any, all-member, member-all, any-none, none-any, all-fails, fails-all, empty-none, none-empty}
+use Rattle.lists.proofs.Tests.{first-member}
 use Rattle.game.specs.Game.{Seed, live, won, lost, WonIn, LostIn}
-use Rattle.game.proofs.Least.{least-zero, least-at}
+use Rattle.game.proofs.Least.{mono-le, least-zero, least-at, least-find}
 use Rattle.game.proofs.Within.{won-zero, won-suc, lost-zero, lost-suc, won-mono}
 
 module _ {Pos : Type 0} (next : Pos → List Pos) (seed : Pos → Seed) where
@@ -41,10 +42,7 @@ module _ {Pos : Type 0} (next : Pos → List Pos) (seed : Pos → Seed) where
       later zero l = won-zero next seed p e
       later (suc k) l = won-suc next seed k p e ∙ none-any _ (next p) (λ q m. s .no-quicker q m k (omega arith))
 
-  -- no position is won within 0 plies by its plies; those without a ply are lost
-  pub win-takes-one : (p : Pos) → seed p ≡ live → WonIn next seed zero p → ⊥
-  win-takes-one p e a = clash (a .holds) (won-zero next seed p e)
-
+  -- a position without a ply is lost in 0
   pub loss-zero : (p : Pos) → seed p ≡ live → isEmpty (next p) ≡ true → LostIn next seed zero p
   loss-zero p e h = least-zero _ (lost-zero next seed p e ∙ h)
 
@@ -70,3 +68,17 @@ module _ {Pos : Type 0} (next : Pos → List Pos) (seed : Pos → Seed) where
       later : (k : ℕ) → k < suc n → lost next seed k p ≡ false
       later zero l = lost-zero next seed p e ∙ sym (untrue (isEmpty (next p)) (λ t. empty-none (next p) t (s .ply)))
       later (suc k) l = lost-suc next seed k p e ∙ fails-all _ (next p) (s .ply) (s .won-in .below k (omega arith))
+
+  -- lost within n: every successor is won within fewer plies
+  pub lost-all-won : (n : ℕ) (p : Pos) → seed p ≡ live → lost next seed n p ≡ true → (q : Pos) → List·Memᴰ q (next p)
+      → (k : ℕ) × (k < n) × WonIn next seed k q
+  lost-all-won zero p e h q m = absurd (empty-none (next p) (sym (lost-zero next seed p e) ∙ h) m)
+  lost-all-won (suc n) p e h q m =
+      let s = least-find _ (won-mono next seed q) n (all-member _ (next p) (sym (lost-suc next seed n p e) ∙ h) q m) in
+      (s .0, omega (arith, s .1), s .2)
+
+  pub all-won-lost : (n : ℕ) (p : Pos) → seed p ≡ live → ((q : Pos) → List·Memᴰ q (next p) → (k : ℕ) × (k < n) × (won next seed k q ≡ true))
+      → lost next seed n p ≡ true
+  all-won-lost zero p e h = lost-zero next seed p e ∙ none-empty (next p) (λ q m. omega (arith, h q m .1))
+  all-won-lost (suc n) p e h =
+      lost-suc next seed n p e ∙ member-all _ (next p) (λ q m. let s = h q m in mono-le _ (won-mono next seed q) (omega (arith, s .1)) (s .2))

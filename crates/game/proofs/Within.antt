@@ -1,15 +1,16 @@
 -- Won and lost within n plies: the definition as equations, one for each kind of position; what is won or lost within n stays so within more plies;
 -- no position is both. Assumes nothing.
 use mathlib.Core.Path.{_≡_, refl, sym, _∙_}
-use mathlib.Core.Bool.{Bool, true, false}
-use mathlib.Core.List.{List, List·Memᴰ}
+use mathlib.Core.Bool.{true, false}
+use mathlib.Core.List.{List}
 use mathlib.Core.Logic.{_⊎_, inl, inr}
 use Prim.Native.Nat.{ℕ, zero, suc, _≤_, _%_, max}
 use native.Mathlib.Omega.{arith}
-use lib.Dec.{leb, eqb}
+use lib.Dec.{eqb}
 use borrow.Author.Tests.{leb-true, eqb-true, le-leb, eq-eqb}
 use Rattle.lists.specs.Lists.{any, all, isEmpty}
-use Rattle.lists.proofs.Tests.{clash, and-left, and-right, and-both, or-cases, or-left, or-right, left-or, right-or, any-member, member-any, all-member, member-all, empty-none}
+use Rattle.lists.proofs.Tests.{clash, and-left, and-right, and-both, or-cases, or-left, or-right, left-or, right-or, any-member, member-any, all-member}
+use Rattle.lists.proofs.Tests.{member-all, empty-none}
 use Rattle.game.specs.Game.{Seed, live, ends, drawn, wonBy, lostBy, won, lost, ended}
 use Rattle.game.proofs.Least.{Mono, mono-le}
 

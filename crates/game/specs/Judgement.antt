@@ -3,7 +3,7 @@
 use mathlib.Core.Bool.{Bool, true, false, _&&_, _||_}
 use mathlib.Core.List.{List, [], _∷_}
 use Prim.Native.Nat.{ℕ, suc, _%_, min, max}
-use lib.Dec.{leb, ltb, eqb}
+use lib.Dec.{ltb, eqb}
 use Rattle.lists.specs.Lists.{any, all, isEmpty}
 use Rattle.game.specs.Game.{drawEntry, voidEntry}
 
@@ -44,3 +44,7 @@ module _ {Pos : Type 0} (next : Pos → List Pos) (t : Pos → ℕ) where
   -- they give it some depth: one is lost, or all are won
   unfoldable pub decided : Pos → Bool
   decided p = any (λ q. isLost (t q)) (next p) || all (λ q. isWon (t q)) (next p)
+
+  -- what a solver's visit at level n leaves at p: n where p is open, that is, its entry is draw, and level n hits it
+  unfoldable pub visit : ℕ → Pos → ℕ
+  visit n p = elim (eqb (t p) drawEntry && hit n p) [ true ↦ n | false ↦ t p ]
