@@ -1,12 +1,12 @@
 -- Tests as facts: the parts of a test by two, who is a member, and who passes. Assumes nothing.
 use mathlib.Core.Path.{_≡_, refl, sym, ap, ap₂, _∙_}
-use mathlib.Core.Bool.{Bool, true, false, true≢false, false≢true, _&&_, _||_}
-use mathlib.Core.List.{List, [], _∷_, List·Memᴰ, List·Memᴰ·head, List·Memᴰ·tail, List·Memᴰ·not-nil, List·Memᴰ·cases-cons}
+use mathlib.Core.Bool.{Bool, true, false, true≢false, false≢true, not, _&&_, _||_}
+use mathlib.Core.List.{List, [], _∷_, _++_, map, List·Memᴰ, List·Memᴰ·head, List·Memᴰ·tail, List·Memᴰ·not-nil, List·Memᴰ·cases-cons}
 use mathlib.Core.Logic.{_⊎_, inl, inr}
 use Prim.Native.Nat.{ℕ}
 use lib.Dec.{eqb}
 use borrow.Author.Tests.{eqb-true, eq-eqb}
-use Rattle.lists.specs.Lists.{keep, all, any, member, isEmpty}
+use Rattle.lists.specs.Lists.{keep, all, any, each, member, isEmpty}
 
 -- tests that pass together are the same
 pub same-test : (a b : Bool) → (a ≡ true → b ≡ true) → (b ≡ true → a ≡ true) → a ≡ b
@@ -114,6 +114,37 @@ module _ {A : Type 0} where
     where
       go : f x ≡ g x → keep f xs ≡ keep g xs → keep f (x ∷ xs) ≡ keep g (x ∷ xs)
       go p q = ap₂ (λ (b : Bool) (r : List A). elim b as (λ c. List A) [ true ↦ x ∷ r | false ↦ r ]) p q
+
+  -- all pass where none fails
+  pub all-none : (f g : A → Bool) (l : List A) → ((x : A) → List·Memᴰ x l → g x ≡ not (f x)) → all f l ≡ not (any g l)
+  all-none f g [] h = refl
+  all-none f g (x ∷ xs) h = go (f x) refl (h x (List·Memᴰ·head refl)) (all-none f g xs (λ y m. h y (List·Memᴰ·tail m)))
+    where
+      go : (b : Bool) → f x ≡ b → g x ≡ not (f x) → all f xs ≡ not (any g xs) → all f (x ∷ xs) ≡ not (any g (x ∷ xs))
+      go true p q r = let e : g x ≡ false = q ∙ ap not p in rw (p, e, all, any) r
+      go false p q r = let e : g x ≡ true = q ∙ ap not p in rw (p, e, all, any)
+
+  pub any-append : (f : A → Bool) (a b : List A) → any f (a ++ b) ≡ (any f a || any f b)
+  any-append f [] b = refl
+  any-append f (x ∷ a) b = go (f x) refl (any-append f a b)
+    where
+      go : (c : Bool) → f x ≡ c → any f (a ++ b) ≡ (any f a || any f b) → any f (x ∷ (a ++ b)) ≡ (any f (x ∷ a) || any f b)
+      go true e r = rw (e, any)
+      go false e r = rw (e, any) r
+
+-- some member of what each gives passes, or of what a function gives
+module _ {A B : Type 0} (f : B → Bool) where
+  pub any-each : (g : A → List B) (l : List A) → any f (each g l) ≡ any (λ x. any f (g x)) l
+  any-each g [] = refl
+  any-each g (x ∷ xs) = any-append f (g x) (each g xs) ∙ ap (λ (b : Bool). any f (g x) || b) (any-each g xs) ∙ or (any f (g x))
+    where
+      or : (a : Bool) → (a || any (λ y. any f (g y)) xs) ≡ elim a as (λ c. Bool) [ true ↦ true | false ↦ any (λ y. any f (g y)) xs ]
+      or true = refl
+      or false = refl
+
+  pub any-map : (g : A → B) (l : List A) → any f (map g l) ≡ any (λ x. f (g x)) l
+  any-map g [] = refl
+  any-map g (x ∷ xs) = ap (λ (b : Bool). elim (f (g x)) as (λ c. Bool) [ true ↦ true | false ↦ b ]) (any-map g xs)
 
 -- some member passes, or all do
 module _ {A : Type 0} (f : A → Bool) where

@@ -8,6 +8,8 @@ pub use choices::removals;
 pub use choices::targets;
 pub use listing::count_moves;
 pub use listing::list_moves;
+pub use making::FROM;
+pub use making::TO;
 pub use making::after_ply;
 pub use making::is_move;
 pub use masks::mill_masks;

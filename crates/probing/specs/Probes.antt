@@ -1,7 +1,9 @@
 -- What is read of a tablebase to judge a position by its successors: the tables of the successors are given by where they start. Assumes nothing.
+use mathlib.Core.Path.{_≡_}
 use mathlib.Core.Bool.{Bool, true, false, _&&_}
 use mathlib.Core.List.{List}
-use Prim.Native.Nat.{ℕ, _+_, _-_, _≤_}
+use mathlib.Core.Logic.{_⊎_}
+use Prim.Native.Nat.{ℕ, suc, _+_, _-_, _≤_}
 use lib.Dec.{eqb, leb, ltb}
 use lib.ListN.{getD}
 use Rattle.board.specs.Board.{count}
@@ -16,6 +18,10 @@ probe tablebase same fewer o b = elim (eqb (count 1 b) o) [
   | true ↦ getD tablebase (same + rank b) 0
   | false ↦ elim (ltb (count 1 b) 3) [ true ↦ 0 | false ↦ getD tablebase (fewer + rank b) 0 ]
 ]
+
+-- the stones left to a side of o once a ply has removed one or none
+abbrev pub Left : ℕ → ℕ → Type 0
+Left o m = (m ≡ o) ⊎ (suc m ≡ o)
 
 -- the tables of the successors of a position with m and o stones lie within a tablebase of a length
 pub record Reads (length points m o same fewer : ℕ) : Type 0 where

@@ -2,7 +2,7 @@
 -- lists. Assumes nothing.
 use mathlib.Core.Path.{_≡_, refl, subst}
 use mathlib.Core.Bool.{Bool, true, false, not, _||_}
-use mathlib.Core.List.{List, [], _∷_, List·Memᴰ, List·Memᴰ·eq-of-singleton}
+use mathlib.Core.List.{List, [], _∷_, map, List·Memᴰ, List·Memᴰ·eq-of-singleton}
 use mathlib.Core.Logic.{_⊎_, inl, inr, ⊎-elim}
 use Prim.Native.Nat.{ℕ, _*_, _<_}
 use lib.Dec.{eqb}
@@ -105,6 +105,11 @@ module _ (rule : ℕ → List ℕ → List ℕ) (rings : ℕ) (b : List ℕ) whe
   pub moves-are : moves rule rings b ≡ each (λ from. stoneMoves rule rings b from (targets rings b from)) (holding rings b 1)
   unfolding moves
   moves-are = refl
+
+  -- the boards after the listed moves
+  pub successors-are : successors rule rings b ≡ map (λ n. afterPly b n) (moves rule rings b)
+  unfolding successors
+  successors-are = refl
 
   -- a successor is the board after a listed move
   pub successor-of : (c : List ℕ) → List·Memᴰ c (successors rule rings b) → (n : ℕ) × List·Memᴰ n (moves rule rings b) × (c ≡ afterPly b n)

@@ -1,12 +1,13 @@
--- A loop over a set's members that counts what each gives, or writes it into a buffer: the invariant of both, its start, its step and its end.
--- Assumes nothing.
+-- A loop over a set's members that counts what each gives, writes it into a buffer, or stops at the first that passes a test: the invariant of
+-- each, its start, its step and its end. Assumes nothing.
 use mathlib.Core.Path.{_≡_, refl, sym, ap, subst, _∙_}
+use mathlib.Core.Bool.{Bool, true, false}
 use mathlib.Core.List.{List, [], _∷_, _++_, map}
 use Prim.Native.Nat.{ℕ, _+_, _^_, _≤_, _<_}
 use native.Mathlib.Omega.{arith}
 use lib.ListN.{length, length-append}
 use lib.Seq.{sets}
-use Rattle.lists.specs.Lists.{each}
+use Rattle.lists.specs.Lists.{any, each}
 use Rattle.lists.proofs.Writing.{Writing, writing-none, writing-part, writing-all}
 use Rattle.sets.specs.Sets.{bit, elements}
 use Rattle.sets.proofs.Elements.{Taken, elements-none}
@@ -78,3 +79,26 @@ module _ (f : ℕ → List ℕ) where
 pub each-map : (g : ℕ → ℕ) (l : List ℕ) → each (λ p. g p ∷ []) l ≡ map g l
 each-map g [] = refl
 each-map g (x ∷ l) = ap (λ (k : List ℕ). g x ∷ k) (each-map g l)
+
+module _ (f : ℕ → Bool) where
+  -- some member of the whole passes exactly where one of those left does
+  pub record Sought (whole left : ℕ) : Type 0 where
+    pub within : left < 2 ^ 32
+    pub among : (q : ℕ) → bit left q ≡ 1 → bit whole q ≡ 1
+    pub same : any f (elements 32 left) ≡ any f (elements 32 whole)
+
+  pub sought-none : (whole : ℕ) → whole < 2 ^ 32 → Sought whole whole
+  sought-none whole h = record { within = h; among = λ q b. b; same = refl }
+
+  pub sought-more : (whole left p rest : ℕ) → Sought whole left → Taken 32 left p rest → f p ≡ false → Sought whole rest
+  sought-more whole left p rest w t e = record {
+    within = omega (arith, w .within, t .less);
+    among = λ q b. w .among q (t .among q b);
+    same = sym (ap (any f) (t .apart) ∙ rw (e, any)) ∙ w .same;
+  }
+
+  pub sought-found : (whole left p rest : ℕ) → Sought whole left → Taken 32 left p rest → f p ≡ true → true ≡ any f (elements 32 whole)
+  sought-found whole left p rest w t e = sym (ap (any f) (t .apart) ∙ rw (e, any)) ∙ w .same
+
+  pub sought-all : (whole left : ℕ) → Sought whole left → left ≡ 0 → false ≡ any f (elements 32 whole)
+  sought-all whole left w e = sym (ap (λ (s : ℕ). any f (elements 32 s)) e ∙ ap (any f) (elements-none 32)) ∙ w .same

@@ -1,0 +1,52 @@
+// Entries read from a tablebase, each table given by where it starts.
+ghost use mathlib.Core.Path.{_≡_};
+ghost use Prim.Native.Nat.{_+_, _*_, _≤_};
+ghost use lib.ListN.{length, getD};
+ghost use Rattle.board.specs.Board.{count, boardOf};
+ghost use Rattle.sizes.specs.Size.{size};
+ghost use Rattle.sizes.specs.Binomial.{BinomialTable};
+ghost use Rattle.ranking.specs.Rank.{rank};
+ghost use Rattle.plies.specs.Positions.{Placed};
+ghost use Rattle.probing.specs.Probes.{probe, Left, Reads};
+
+// The entry of a position in the table that starts at a place.
+pub fn entry_in(
+    tablebase: &[u16],
+    binomials: &[u32; 625],
+    rings: usize,
+    start: usize,
+    position: board::Position,
+) -> u16
+    requires { ⌜ BinomialTable (now binomials) ⌝ }
+    requires { ⌜ Placed rings position ⌝ }
+    requires { ⌜ start + size (8 * rings) (count 1 (boardOf (8 * rings) position)) (count 2 (boardOf (8 * rings) position)) ≤ length (now tablebase) ⌝ }
+    ensures { λ r. ⌜ r ≡ getD (now (tablebase .entry)) (start + rank (boardOf (8 * rings) position)) 0 ⌝ }
+{
+    tablebase[start + ranking::rank(binomials, 8 * rings, position)]
+}
+
+// The entry of the position after a ply, where the opponent had so many stones: the sides have changed names, so these are the mover's now.
+pub fn entry_after(
+    tablebase: &[u16],
+    binomials: &[u32; 625],
+    rings: usize,
+    same: usize,
+    fewer: usize,
+    opponent: usize,
+    position: board::Position,
+) -> u16
+    requires { ⌜ BinomialTable (now binomials) ⌝ }
+    requires { ⌜ Placed rings position ⌝ }
+    requires { ⌜ Left opponent (count 1 (boardOf (8 * rings) position)) ⌝ }
+    requires { ⌜ Reads (length (now tablebase)) (8 * rings) (count 2 (boardOf (8 * rings) position)) opponent same fewer ⌝ }
+    ensures { λ r. ⌜ r ≡ probe (now (tablebase .entry)) same fewer opponent (boardOf (8 * rings) position) ⌝ }
+{
+    let stones = sets::count(position.mover) as usize;
+    if stones == opponent {
+        return entry_in(tablebase, binomials, rings, same, position);
+    }
+    if stones < 3 {
+        return 0;
+    }
+    entry_in(tablebase, binomials, rings, fewer, position)
+}

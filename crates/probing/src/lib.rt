@@ -1,0 +1,8 @@
+// What a tablebase says of a position's successors: their entries, and the questions that a solver asks of them.
+mod asking;
+mod entries;
+
+pub use asking::Question;
+pub use asking::some_successor;
+pub use entries::entry_after;
+pub use entries::entry_in;
