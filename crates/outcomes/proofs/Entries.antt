@@ -13,10 +13,10 @@ use Rattle.ranking.specs.Rank.{rank}
 use Rattle.ranking.specs.Unrank.{unrank}
 use Rattle.layout.specs.Layout.{start}
 use Rattle.outcomes.specs.Places.{place, entryAt, successorEntry}
-use Rattle.outcomes.specs.Pair.{inPair}
+use Rattle.outcomes.specs.Pair.{Pair, inPair}
 use Rattle.outcomes.specs.Filled.{BothTables, Kept}
 use Rattle.outcomes.proofs.Ranked.{Standing, unrank-in, place-unrank, standing-one}
-use Rattle.outcomes.proofs.PairGame.{Pair, OnPair, pair-table, in-pair, stands, stands-own}
+use Rattle.outcomes.proofs.PairGame.{OnPair, pair-table, in-pair, stands, stands-own}
 
 module _ (rings k : ℕ) (tablebase b : List ℕ) where
   pub entry-place : entryAt rings k tablebase b ≡ getD tablebase (place rings k b) 0

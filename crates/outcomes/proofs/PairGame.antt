@@ -16,17 +16,9 @@ use Rattle.rules.proofs.Leads.{Leads, MoverLeft, ply-leads}
 use Rattle.game.specs.Game.{live, ends, drawn, drawEntry}
 use Rattle.outcomes.specs.Places.{entryAt}
 use Rattle.outcomes.specs.Whole.{next}
-use Rattle.outcomes.specs.Pair.{inPair, given, pairSeed}
+use Rattle.outcomes.specs.Pair.{Pair, inPair, given, pairSeed}
 use Rattle.outcomes.specs.Filled.{BothTables}
 use Rattle.outcomes.proofs.Ranked.{InTable, Standing}
-
--- a pair of tables of largest count k
-pub record Pair (rings k m o : ℕ) : Type 0 where
-  pub small : rings ≤ 3
-  pub mover-low : 3 ≤ m
-  pub mover-high : m ≤ k
-  pub opponent-low : 3 ≤ o
-  pub opponent-high : o ≤ k
 
 -- the counts of the boards that a ply of the pair leads to: the pair's own, and those of the lower tables
 pub data Counts (m o x y : ℕ) : Type 0 where

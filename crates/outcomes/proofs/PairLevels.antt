@@ -8,9 +8,10 @@ use Prim.Native.Nat.{ℕ, suc, _+_, _*_, _≤_, _<_}
 use native.Mathlib.Decide.{ℕ-discrete}
 use native.Mathlib.Omega.{arith}
 use lib.Dec.{eqb, ltb}
-use lib.ListN.{length, set}
+use lib.ListN.{length, getD, set}
 use borrow.Author.Tests.{ltb-true, ltb-false, eqb-true, eqb-false}
 use Rattle.board.specs.Board.{count}
+use Rattle.ranking.specs.Rank.{rank}
 use Rattle.layout.specs.Layout.{tablebaseLength}
 use Rattle.game.specs.Game.{Seed, live, ends, drawn, drawEntry, voidEntry}
 use Rattle.game.specs.Judgement.{hit, visit}
@@ -19,19 +20,15 @@ use Rattle.game.proofs.Hits.{visit-hit, visit-miss, visit-closed}
 use Rattle.game.proofs.Levels.{Within, one}
 use Rattle.outcomes.specs.Places.{place, entryAt, successorEntry}
 use Rattle.outcomes.specs.Whole.{next}
-use Rattle.outcomes.specs.Pair.{inPair, given, pairSeed}
+use Rattle.outcomes.specs.Pair.{Pair, inPair, given, pairSeed, LowerTables, LowerValid}
 use Rattle.outcomes.specs.Filled.{BothTables, Kept}
-use Rattle.outcomes.proofs.Ranked.{Standing, standing-low, standing-one}
-use Rattle.outcomes.proofs.PairGame.{Pair, OnPair, InPair, on-pair, in-pair, pair-in, given-draw, given-ends, seed-in, seed-two, seed-given, stands, three-own, stands-own, pair-closed, live-in}
-use Rattle.outcomes.proofs.Entries.{entry-two, entry-three, written-here, written-elsewhere, kept-lower}
+use Rattle.outcomes.proofs.Ranked.{Standing, own-table, place-at, rank-in, standing-low, standing-one}
+use Rattle.outcomes.proofs.PairGame.{Counts, own, lower, lower-turned, OnPair, InPair, on-pair, in-pair, pair-in, given-draw, given-ends, seed-in, seed-two, seed-given, stands, three-own, stands-own, pair-closed, live-in}
+use Rattle.outcomes.proofs.Entries.{entry-place, entry-two, entry-three, written-here, written-elsewhere, kept-lower}
 
 -- a depth or a draw, and not void
 abbrev pub Valid : ℕ → Type 0
 Valid e = (e < voidEntry) ⊎ (e ≡ drawEntry)
-
--- no void in the lower tables
-abbrev pub LowerValid : ℕ → ℕ → ℕ → ℕ → List ℕ → Type 0
-LowerValid rings k m o tablebase = (b : List ℕ) → OnPair rings m o b → inPair m o b ≡ false → 3 ≤ count 1 b → Valid (entryAt rings k tablebase b)
 
 ends-same : {c d : ℕ} → ends c ≡ ends d → c ≡ d
 ends-same e = cc
@@ -50,7 +47,22 @@ given-is : (e : ℕ) → Valid e → ((given e ≡ ends e) × (e < voidEntry)) �
 given-is e (inl l) = inl (given-ends e (λ q. omega arith), l)
 given-is e (inr q) = inr (given-draw e q, q)
 
-module _ (rings k m o : ℕ) (pair : Pair rings k m o) (before : List ℕ) (valid : LowerValid rings k m o before) where
+module _ (rings k m o : ℕ) (pair : Pair rings k m o) (before : List ℕ) (lower-valid : LowerValid rings k m o before) where
+  -- a board of a lower table
+  valid : (b : List ℕ) → OnPair rings m o b → inPair m o b ≡ false → 3 ≤ count 1 b → Valid (entryAt rings k before b)
+  valid b s f l = at (of (s .counts))
+    where
+      of : Counts m o (count 1 b) (count 2 b) → LowerTables m o (count 1 b) (count 2 b)
+      of (own t) = absurd (true≢false (sym (in-pair {rings = rings} record { values = s .values; points = s .points; counts = t }) ∙ f))
+      of (lower e g) = (l, inl (e, g))
+      of (lower-turned e g) = (l, inr (e, g))
+
+      at : LowerTables m o (count 1 b) (count 2 b) → Valid (entryAt rings k before b)
+      at t =
+          let w = own-table rings k b (stands rings k m o pair b s l) in
+          subst Valid (ap (λ (j : ℕ). getD before j 0) (sym (place-at rings k (count 1 b) (count 2 b) b w)) ∙ sym (entry-place rings k before b))
+          (lower-valid (count 1 b) (count 2 b) (rank b) t (rank-in rings (count 1 b) (count 2 b) b w))
+
   abbrev seed : List ℕ → Seed
   seed b = pairSeed rings k m o before b
 
@@ -133,8 +145,8 @@ module _ (rings k m o : ℕ) (pair : Pair rings k m o) (before : List ℕ) (vali
   Amid n D now = Within (next rings) (λ b. pairSeed rings k m o before b) (OnPair rings m o) (seen now) n D
 
   module _ (n : ℕ) (small : n < voidEntry) (now : List ℕ) (room : length now ≡ tablebaseLength (8 * rings) k) (p : List ℕ) (i : InPair rings m o p) where
-    own : Standing rings k p
-    own = stands-own rings k m o pair p i
+    stand : Standing rings k p
+    stand = stands-own rings k m o pair p i
 
     abbrev written : List ℕ
     written = set now (place rings k p) n
@@ -146,17 +158,17 @@ module _ (rings k m o : ℕ) (pair : Pair rings k m o) (before : List ℕ) (vali
         at : (c : Bool) → ltb (count 1 q) 3 ≡ c → seen written q ≡ seen now q
         at true f = let l = ltb-true (count 1 q) 3 f in entry-two rings k written q l ∙ sym (entry-two rings k now q l)
         at false f = let l = ltb-false (count 1 q) 3 f in
-            entry-three rings k written q l ∙ written-elsewhere rings k now p n q own (stands rings k m o pair q s l) ne ∙ sym (entry-three rings k now q l)
+            entry-three rings k written q l ∙ written-elsewhere rings k now p n q stand (stands rings k m o pair q s l) ne ∙ sym (entry-three rings k now q l)
 
     here : seen written p ≡ n
-    here = pair-entry written p i ∙ written-here rings k now p n (omega (arith, standing-low rings k p own))
+    here = pair-entry written p i ∙ written-here rings k now p n (omega (arith, standing-low rings k p stand))
 
     -- boards of the pair are told apart by their places
     same : (q : List ℕ) → InPair rings m o q → (q ≡ p) ⊎ (q ≡ p → ⊥)
     same q j = apart (ℕ-discrete (place rings k q) (place rings k p))
       where
         apart : Dec (place rings k q ≡ place rings k p) → (q ≡ p) ⊎ (q ≡ p → ⊥)
-        apart (yes e) = inl (standing-one rings k q p (stands-own rings k m o pair q j) own e)
+        apart (yes e) = inl (standing-one rings k q p (stands-own rings k m o pair q j) stand e)
         apart (no d) = inr (λ e. d (ap (place rings k) e))
 
     module _ (D : List ℕ → Type 0) (w : Amid n D now) where

@@ -1,7 +1,7 @@
 -- What a fill leaves in a tablebase, for the whole game and for a pair's game alike: the tables to fill are those of T, the game is given by its
 -- seeds. Assumes nothing.
 use mathlib.Core.Path.{_≡_}
-use mathlib.Core.Bool.{true, false}
+use mathlib.Core.Bool.{Bool, true, false}
 use mathlib.Core.List.{List, List·Memᴰ}
 use mathlib.Core.Logic.{_⊎_}
 use Prim.Native.Nat.{ℕ, _+_, _*_, _<_}
@@ -45,3 +45,8 @@ module _ (rings k limit : ℕ) (T : ℕ → ℕ → Type 0) (seed : List ℕ →
     pub plies : ℕ
     pub forced : ended (next rings) seed plies (unrank (8 * rings) mover opponent rank) ≡ true
     pub beyond : ended (next rings) seed limit (unrank (8 * rings) mover opponent rank) ≡ false
+
+  -- what a fill answers: whether some position was too deep
+  abbrev pub Fill : Bool → Type 0
+  Fill true = TooDeep
+  Fill false = Filled
