@@ -66,6 +66,11 @@ pub record PlaceOf (points k m o r x : ℕ) : Type 0 where
   pub rank-low : r < size points m o
   pub at : start points k m o + r ≡ x
 
+-- a table's end, by its start and its size
+pub end-is : (points k m o : ℕ) → end points k m o ≡ start points k m o + size points m o
+unfolding end
+end-is points k m o = refl
+
 module _ (points k : ℕ) where
   starts : {m o : ℕ} → InRange k m o → start points k m o ≡ rowsPart points k (m - 3) + rowPart points m (o - 3)
   starts {m} {o} w = start-is points k m o (w .mover-low) (w .mover-high) (w .opponent-low) (w .opponent-high)

@@ -1,2 +1,3 @@
 pub mod Probed
 pub mod Sweeping
+pub mod Parts

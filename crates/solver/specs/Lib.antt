@@ -1,2 +1,3 @@
 pub mod Tables
 pub mod Levels
+pub mod Solve

@@ -1,0 +1,21 @@
+-- What the solver of a pair asks and answers. Assumes nothing.
+use mathlib.Core.Path.{_≡_}
+use mathlib.Core.Bool.{Bool}
+use mathlib.Core.List.{List}
+use Prim.Native.Nat.{ℕ, _*_}
+use Rattle.layout.specs.Layout.{tablebaseLength}
+use Rattle.outcomes.specs.Pair.{Pair, pairSeed}
+use Rattle.outcomes.specs.Filled.{BothTables, Fill}
+use Rattle.solver.specs.declared.tables.Table.{Table}
+use Rattle.solver.specs.Tables.{Located}
+
+-- a and b are the tables (m, o) and (o, m) of a tablebase of a length
+pub record Setting (length rings k m o : ℕ) (a b : Table) : Type 0 where
+  pub pair : Pair rings k m o
+  pub room : length ≡ tablebaseLength (8 * rings) k
+  pub first : Located (8 * rings) k m o a
+  pub second : Located (8 * rings) k o m b
+
+-- the pair is filled, or some position is too deep
+abbrev pub PairFill : ℕ → ℕ → ℕ → ℕ → ℕ → List ℕ → List ℕ → Bool → Type 0
+PairFill rings k m o limit before after deep = Fill rings k limit (BothTables m o) (λ b. pairSeed rings k m o before b) before after deep
