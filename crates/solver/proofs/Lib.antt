@@ -1,3 +1,4 @@
 pub mod Probed
 pub mod Sweeping
 pub mod Parts
+pub mod States

@@ -1,0 +1,103 @@
+-- The levels of a pair's solver: what holds before each level, that a sweep and the step to the next level keep it, and what the solver answers in
+-- the end. Assumes nothing.
+use mathlib.Core.Path.{_≡_, refl, sym, ap, ap₂, subst, _∙_}
+use mathlib.Core.Bool.{Bool, true, false, _&&_, true≢false}
+use mathlib.Core.List.{List}
+use mathlib.Core.Logic.{_⊎_, inl, inr}
+use Prim.Native.Nat.{ℕ, zero, suc, _+_, _-_, _*_, _≤_, _<_, min}
+use native.Mathlib.Omega.{arith}
+use lib.Dec.{eqb, ltb}
+use lib.ListN.{length, getD}
+use borrow.Author.Tests.{eqb-true, eqb-false, ltb-true, ltb-false, eq-eqb}
+use Rattle.lists.proofs.Tests.{and-left, and-right}
+use Rattle.board.specs.Board.{count}
+use Rattle.sizes.specs.Size.{size}
+use Rattle.ranking.specs.Rank.{rank}
+use Rattle.ranking.specs.Unrank.{unrank}
+use Rattle.layout.specs.Layout.{start, end, tablebaseLength}
+use Rattle.layout.proofs.OneToOne.{InRange, end-is, end-within}
+use Rattle.game.specs.Game.{drawEntry, voidEntry, ended, Depth, Entry}
+use Rattle.game.specs.Judgement.{decided}
+use Rattle.game.proofs.Least.{mono-le}
+use Rattle.game.proofs.Within.{ended-mono}
+use Rattle.game.proofs.Depths.{before-or-not}
+use Rattle.game.proofs.Levels.{Exact, exact-start, level-start, level-done, beyond, settled, skip, stop}
+use Rattle.outcomes.specs.Places.{place, entryAt, successorEntry}
+use Rattle.outcomes.specs.Whole.{next}
+use Rattle.outcomes.specs.Pair.{Pair, pairSeed, LowerValid}
+use Rattle.outcomes.specs.Filled.{BothTables, Kept, Filled, TooDeep}
+use Rattle.outcomes.proofs.Ranked.{InTable, unrank-in, unrank-of, place-at, rank-in}
+use Rattle.outcomes.proofs.PairGame.{Counts, own, lower, lower-turned, OnPair, InPair, on-pair, pair-table}
+use Rattle.outcomes.proofs.Entries.{entry-place, entry-two, entry-three, entry-unrank, kept-then}
+use Rattle.outcomes.proofs.PairLevels.{Amid, seen, pair-live, live-pair, pair-ground, pair-seeded, pair-entry}
+use Rattle.parts.specs.Parts.{partOf, leastFrom}
+use Rattle.parts.proofs.LeastDepth.{least-cases, part-below}
+use Rattle.solver.specs.declared.tables.Table.{Table}
+use Rattle.solver.specs.Tables.{lowerStart, lowerEnd, Located}
+use Rattle.solver.specs.Levels.{swept, openDecided, Found, pairSwept, pairFilled, pairLeast, levelAfter}
+use Rattle.solver.specs.Solve.{Setting, PairFill}
+use Rattle.solver.proofs.Sweeping.{Side, decided-is, swept-kept, Done, earlier, ranked-below, swept-amid}
+use Rattle.solver.proofs.Parts.{first-side, second-side, in-range, part-room, part-place, pair-kept, pair-filled}
+
+module _ (rings k m o : ℕ) (a b : Table) (before : List ℕ) (s : Setting (length before) rings k m o a b) (valid : LowerValid rings k m o before) where
+  -- every position of the pair has its depth if that is below the level, and is open otherwise
+  abbrev pub ExactBelow : ℕ → List ℕ → Type 0
+  ExactBelow level now = Exact (next rings) (λ c. pairSeed rings k m o before c) (OnPair rings m o) (λ c. successorEntry rings k now c) level
+
+  -- before a level; past the last that can write anything, every entry is true
+  pub record State (limit level : ℕ) (now : List ℕ) : Type 0 where
+    pub kept : Kept rings k (BothTables m o) before now
+    pub exact : ExactBelow level now
+    pub most : (c : List ℕ) → InPair rings m o c → (entryAt rings k now c ≤ limit) ⊎ (entryAt rings k now c ≡ drawEntry)
+    pub over : voidEntry < level → (c : List ℕ) → OnPair rings m o c → Entry (next rings) (λ x. pairSeed rings k m o before x) c (successorEntry rings k now c)
+
+  -- the tables opened
+  pub state-start : (limit : ℕ) → State limit 0 (pairFilled a b drawEntry before)
+  state-start limit = record {
+    kept = w;
+    exact = exact-start (next rings) (λ c. pairSeed rings k m o before c) (OnPair rings m o) (λ c. successorEntry rings k opened c)
+        (pair-seeded rings k m o (s .pair) before valid opened w)
+        (λ c i e. blank c (live-pair rings k m o (s .pair) before valid c i e));
+    most = λ c i. inr (pair-filled rings k m o a b before s drawEntry c i);
+    over = λ l. absurd (omega arith);
+  }
+    where
+      opened : List ℕ
+      opened = pairFilled a b drawEntry before
+
+      w : Kept rings k (BothTables m o) before opened
+      w = pair-kept rings k m o a b before s drawEntry
+
+      blank : (c : List ℕ) → InPair rings m o c → successorEntry rings k opened c ≡ drawEntry
+      blank c i = pair-entry rings k m o (s .pair) before valid opened c i ∙ pair-filled rings k m o a b before s drawEntry c i
+
+  -- a board of the pair is the board of a rank of one of its tables
+  pub data Rank (c : List ℕ) : Type 0 where
+    in-first : (r : ℕ) → r < size (8 * rings) m o → c ≡ unrank (8 * rings) m o r → Rank c
+    in-second : (r : ℕ) → r < size (8 * rings) o m → c ≡ unrank (8 * rings) o m r → Rank c
+
+  pub rank-of : (c : List ℕ) → InPair rings m o c → Rank c
+  rank-of c i = go (i .counts)
+    where
+      whose : (x y : ℕ) → count 1 c ≡ x → count 2 c ≡ y → InTable rings x y c
+      whose x y e f = record { values = i .values; points = i .points; mover = e; opponent = f }
+
+      go : BothTables m o (count 1 c) (count 2 c) → Rank c
+      go (inl q) = let w = whose m o (q .0) (q .1) in in-first (rank c) (rank-in rings m o c w) (sym (unrank-of rings m o c w))
+      go (inr q) = let w = whose o m (q .0) (q .1) in in-second (rank c) (rank-in rings o m c w) (sym (unrank-of rings o m c w))
+
+  -- an exact table holds depths below the level, and draws
+  exact-most : (level limit : ℕ) (now : List ℕ) → level ≤ suc limit → level ≤ voidEntry → ExactBelow level now
+      → (c : List ℕ) → InPair rings m o c → (entryAt rings k now c ≤ limit) ⊎ (entryAt rings k now c ≡ drawEntry)
+  exact-most level limit now h v x c i =
+      go (before-or-not (next rings) (λ y. pairSeed rings k m o before y) level c)
+    where
+      is : successorEntry rings k now c ≡ entryAt rings k now c
+      is = pair-entry rings k m o (s .pair) before valid now c i
+
+      live-c : pairSeed rings k m o before c ≡ _
+      live-c = pair-live rings k m o (s .pair) before valid c i
+
+      go : _ → (entryAt rings k now c ≤ limit) ⊎ (entryAt rings k now c ≡ drawEntry)
+      go (inl (j, l, d)) = inl (omega (arith, is, x .low c (on-pair i) live-c j l d))
+      go (inr n) = inr (sym is ∙ x .blank c (on-pair i) live-c n)
