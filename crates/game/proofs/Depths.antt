@@ -10,7 +10,7 @@ use lib.Dec.{leb, eqb}
 use borrow.Author.Tests.{leb-true, leb-false, eqb-true, eqb-false}
 use Rattle.lists.proofs.Tests.{clash, untrue, same-test}
 use Rattle.game.specs.Game.{Seed, live, ends, drawn, wonBy, lostBy, won, lost, ended, WonIn, LostIn, Depth, Draw, Entry}
-use Rattle.game.proofs.Least.{mono-le, mono-below, least-unique, least-find}
+use Rattle.game.proofs.Least.{mono-le, mono-below, least-unique, least-find, same-least}
 use Rattle.game.proofs.Within.{wonBy-is, wonBy-of, lostBy-is, lostBy-of, won-zero, won-ends, won-drawn, lost-ends, lost-drawn}
 use Rattle.game.proofs.Within.{by-plies, won-mono, lost-mono, ended-mono, never-both}
 use Rattle.game.proofs.Within.{won-ended, lost-ended, ended-cases, not-ended, open-not-won, open-not-lost}
@@ -149,3 +149,9 @@ module _ {Pos : Type 0} (next : Pos → List Pos) (seed : Pos → Seed) where
       go l (inl x) b e = absurd (never-both next seed d n p (x .holds) l)
       go l (inr x) true e = lostBy-of (lost-even p x) (leb-true d n e)
       go l (inr x) false e = clash l (x .below n (leb-false d n e))
+
+-- positions, of one game or of two, that end within the same n have the same entry
+pub same-entry : {Pos₁ Pos₂ : Type 0} (next₁ : Pos₁ → List Pos₁) (seed₁ : Pos₁ → Seed) (p : Pos₁) (next₂ : Pos₂ → List Pos₂) (seed₂ : Pos₂ → Seed) (q : Pos₂)
+    → ((n : ℕ) → ended next₁ seed₁ n p ≡ ended next₂ seed₂ n q) → {e : ℕ} → Entry next₁ seed₁ p e → Entry next₂ seed₂ q e
+same-entry next₁ seed₁ p next₂ seed₂ q h (inl a) = inl (a .0, same-least _ _ h (a .1))
+same-entry next₁ seed₁ p next₂ seed₂ q h (inr a) = inr (a .0, λ n. sym (h n) ∙ a .1 n)

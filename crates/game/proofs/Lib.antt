@@ -7,3 +7,5 @@ pub mod Hits
 pub mod Entries
 pub mod Stopping
 pub mod Levels
+pub mod Compose
+pub mod Computed
