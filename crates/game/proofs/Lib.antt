@@ -9,3 +9,8 @@ pub mod Stopping
 pub mod Levels
 pub mod Compose
 pub mod Computed
+pub mod Judging
+pub mod JudgedDepths
+pub mod Certificate
+pub mod Outcomes
+pub mod Play
