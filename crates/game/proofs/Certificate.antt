@@ -40,12 +40,12 @@ module _ {Pos : Type 0} (next : Pos → List Pos) (seed : Pos → Seed) (S : Pos
     known q s = go (live-or-true next seed S g t x q s)
       where
         valid : seed q ≡ live → (c : Bool) → ltb (t q) voidEntry ≡ c → (judge (map t (next q)) ≤ voidEntry) ⊎ (judge (map t (next q)) ≡ drawEntry)
-            → Open next seed S t q ⊎ Entry next seed q (t q)
+            → Open seed t q ⊎ Entry next seed q (t q)
         valid e true f r = let l = ltb-true (t q) voidEntry f in inr (inl (l, upto voidEntry (omega arith) .sound q s l))
         valid e false f (inl r) = absurd (no-void q s e (omega (arith, ltb-false (t q) voidEntry f, right q s e)))
         valid e false f (inr r) = inl (e, right q s e ∙ r)
 
-        go : (seed q ≡ live) ⊎ Entry next seed q (t q) → Open next seed S t q ⊎ Entry next seed q (t q)
+        go : (seed q ≡ live) ⊎ Entry next seed q (t q) → Open seed t q ⊎ Entry next seed q (t q)
         go (inl e) = valid e (ltb (t q) voidEntry) refl (judge-range next t q)
         go (inr a) = inr a
 

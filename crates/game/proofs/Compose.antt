@@ -6,7 +6,7 @@ use mathlib.Core.List.{List, List·Memᴰ}
 use Prim.Native.Nat.{ℕ, zero, suc}
 use Rattle.lists.proofs.Tests.{any-same, all-same}
 use Rattle.game.specs.Game.{Seed, live, ends, drawn, won, lost, ended, Depth, Draw, Entry}
-use Rattle.game.proofs.Within.{won-zero, won-suc, won-ends, won-drawn, lost-zero, lost-suc, lost-ends, lost-drawn, open-not-won, open-not-lost}
+use Rattle.game.proofs.Within.{won-zero, won-suc, won-ends, won-drawn, lost-zero, lost-suc, lost-ends, lost-drawn, neither-won, neither-lost}
 use Rattle.game.proofs.Depths.{depth-won, depth-lost, ends-depth, drawn-draw, same-entry}
 
 -- what s₂ gives of p is true by s₁
@@ -33,7 +33,7 @@ module _ {Pos : Type 0} (next : Pos → List Pos) (s₁ s₂ : Pos → Seed) (S 
   same-given n p plies (true-depth d e a) =
       (depth-won next s₁ p a n ∙ sym (won-ends next s₂ n p e), depth-lost next s₁ p a n ∙ sym (lost-ends next s₂ n p e))
   same-given n p plies (true-draw e a) =
-      (open-not-won next s₁ n p (a n) ∙ sym (won-drawn next s₂ n p e), open-not-lost next s₁ n p (a n) ∙ sym (lost-drawn next s₂ n p e))
+      (neither-won next s₁ n p (a n) ∙ sym (won-drawn next s₂ n p e), neither-lost next s₁ n p (a n) ∙ sym (lost-drawn next s₂ n p e))
 
   same : (n : ℕ) (p : Pos) → S p → Same n p
   same zero p s = same-given zero p

@@ -11,7 +11,7 @@ use borrow.Author.Tests.{eqb-true, eq-eqb, ne-eqb}
 use Rattle.lists.proofs.Tests.{clash}
 use Rattle.game.specs.Game.{Seed, WonIn, LostIn, Entry, drawEntry, voidEntry, Outcome, moverWins, opponentWins, neither, HasOutcome, outcomeOf}
 use Rattle.game.proofs.Least.{least-unique}
-use Rattle.game.proofs.Within.{never-both, open-not-won, open-not-lost}
+use Rattle.game.proofs.Within.{never-both, neither-won, neither-lost}
 use Rattle.game.proofs.Depths.{won-odd, lost-even, depth-cases}
 
 outcome-draw : outcomeOf drawEntry ≡ neither
@@ -56,12 +56,12 @@ module _ {Pos : Type 0} (next : Pos → List Pos) (seed : Pos → Seed) (p : Pos
   pub outcome-one : (o o′ : Outcome) → HasOutcome next seed p o → HasOutcome next seed p o′ → o ≡ o′
   outcome-one (moverWins n) (moverWins m) a b = ap moverWins (least-unique _ a b)
   outcome-one (moverWins n) (opponentWins m) a b = absurd (never-both next seed n m p (a .holds) (b .holds))
-  outcome-one (moverWins n) neither a b = clash (a .holds) (open-not-won next seed n p (b n))
+  outcome-one (moverWins n) neither a b = clash (a .holds) (neither-won next seed n p (b n))
   outcome-one (opponentWins n) (moverWins m) a b = absurd (never-both next seed m n p (b .holds) (a .holds))
   outcome-one (opponentWins n) (opponentWins m) a b = ap opponentWins (least-unique _ a b)
-  outcome-one (opponentWins n) neither a b = clash (a .holds) (open-not-lost next seed n p (b n))
-  outcome-one neither (moverWins m) a b = clash (b .holds) (open-not-won next seed m p (a m))
-  outcome-one neither (opponentWins m) a b = clash (b .holds) (open-not-lost next seed m p (a m))
+  outcome-one (opponentWins n) neither a b = clash (a .holds) (neither-lost next seed n p (b n))
+  outcome-one neither (moverWins m) a b = clash (b .holds) (neither-won next seed m p (a m))
+  outcome-one neither (opponentWins m) a b = clash (b .holds) (neither-lost next seed m p (a m))
   outcome-one neither neither a b = refl
 
   entry-states : {e : ℕ} (o : Outcome) → Entry next seed p e → HasOutcome next seed p o → o ≡ outcomeOf e
