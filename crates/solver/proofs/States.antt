@@ -16,11 +16,11 @@ use Rattle.ranking.specs.Rank.{rank}
 use Rattle.ranking.specs.Unrank.{unrank}
 use Rattle.layout.specs.Layout.{start, end, tablebaseLength}
 use Rattle.layout.proofs.OneToOne.{InRange, end-is, end-within}
-use Rattle.game.specs.Game.{drawEntry, voidEntry, ended, Depth, Entry}
+use Rattle.game.specs.Game.{live, drawEntry, voidEntry, ended, Depth, Entry}
 use Rattle.game.specs.Judgement.{decided}
 use Rattle.game.proofs.Least.{mono-le}
 use Rattle.game.proofs.Within.{ended-mono}
-use Rattle.game.proofs.Depths.{before-or-not}
+use Rattle.game.proofs.Depths.{NotBefore, before-or-not}
 use Rattle.game.proofs.Levels.{Exact, exact-start, level-start, level-done, beyond, settled, skip, stop}
 use Rattle.outcomes.specs.Places.{place, entryAt, successorEntry}
 use Rattle.outcomes.specs.Whole.{next}
@@ -89,15 +89,90 @@ module _ (rings k m o : ℕ) (a b : Table) (before : List ℕ) (s : Setting (len
   -- an exact table holds depths below the level, and draws
   exact-most : (level limit : ℕ) (now : List ℕ) → level ≤ suc limit → level ≤ voidEntry → ExactBelow level now
       → (c : List ℕ) → InPair rings m o c → (entryAt rings k now c ≤ limit) ⊎ (entryAt rings k now c ≡ drawEntry)
-  exact-most level limit now h v x c i =
-      go (before-or-not (next rings) (λ y. pairSeed rings k m o before y) level c)
+  exact-most level limit now h v x c i = go (before-or-not (next rings) (λ y. pairSeed rings k m o before y) level c)
     where
       is : successorEntry rings k now c ≡ entryAt rings k now c
       is = pair-entry rings k m o (s .pair) before valid now c i
 
-      live-c : pairSeed rings k m o before c ≡ _
-      live-c = pair-live rings k m o (s .pair) before valid c i
+      seed-live : pairSeed rings k m o before c ≡ live
+      seed-live = pair-live rings k m o (s .pair) before valid c i
 
-      go : _ → (entryAt rings k now c ≤ limit) ⊎ (entryAt rings k now c ≡ drawEntry)
-      go (inl (j, l, d)) = inl (omega (arith, is, x .low c (on-pair i) live-c j l d))
-      go (inr n) = inr (sym is ∙ x .blank c (on-pair i) live-c n)
+      go : ((j : ℕ) × (j < level) × Depth (next rings) (λ y. pairSeed rings k m o before y) j c)
+          ⊎ NotBefore (next rings) (λ y. pairSeed rings k m o before y) level c → (entryAt rings k now c ≤ limit) ⊎ (entryAt rings k now c ≡ drawEntry)
+      go (inl (j, l, d)) = inl (omega (arith, is, x .low c (on-pair i) seed-live j l d))
+      go (inr n) = inr (sym is ∙ x .blank c (on-pair i) seed-live n)
+
+  -- both tables swept at a level
+  module _ (limit level : ℕ) (now : List ℕ) (small : limit < voidEntry) (h : level ≤ limit) (st : State limit level now) where
+    abbrev none : List ℕ → Type 0
+    none c = ⊥
+
+    room : length now ≡ tablebaseLength (8 * rings) k
+    room = st .kept .same-length ∙ s .room
+
+    low : level < voidEntry
+    low = omega arith
+
+    abbrev once : List ℕ
+    once = swept rings a (b .own .start) level now (size (8 * rings) m o)
+
+    abbrev twice : List ℕ
+    twice = swept rings b (a .own .start) level once (size (8 * rings) o m)
+
+    abbrev DoneOnce : List ℕ → Type 0
+    DoneOnce c = Done rings k m o (s .pair) m o a (b .own .start) (first-side s) before valid level low none (size (8 * rings) m o) c
+
+    abbrev DoneTwice : List ℕ → Type 0
+    DoneTwice c = Done rings k m o (s .pair) o m b (a .own .start) (second-side s) before valid level low DoneOnce (size (8 * rings) o m) c
+
+    once-kept : Kept rings k (BothTables m o) now once
+    once-kept = swept-kept rings k m o (s .pair) m o a (b .own .start) (first-side s) level now (size (8 * rings) m o) (omega arith)
+
+    once-amid : Amid rings k m o (s .pair) before valid level DoneOnce once
+    once-amid = swept-amid rings k m o (s .pair) m o a (b .own .start) (first-side s) before valid level low none now room
+        (level-start (next rings) (λ c. pairSeed rings k m o before c) (OnPair rings m o) (λ c. successorEntry rings k now c) level (st .exact)) (size (8 * rings) m o) (omega arith)
+
+    twice-kept : Kept rings k (BothTables m o) once twice
+    twice-kept = swept-kept rings k m o (s .pair) o m b (a .own .start) (second-side s) level once (size (8 * rings) o m) (omega arith)
+
+    twice-amid : Amid rings k m o (s .pair) before valid level DoneTwice twice
+    twice-amid = swept-amid rings k m o (s .pair) o m b (a .own .start) (second-side s) before valid level low DoneOnce once
+        (once-kept .same-length ∙ room) once-amid (size (8 * rings) o m) (omega arith)
+
+    -- every board of the pair has been visited
+    all-once : m ≡ o → (c : List ℕ) → Rank c → DoneOnce c
+    all-once e c (in-first r l q) = ranked-below r l q
+    all-once e c (in-second r l q) =
+        ranked-below r (subst (λ (z : ℕ). r < z) (ap₂ (size (8 * rings)) (sym e) e) l) (q ∙ ap₂ (λ (u v : ℕ). unrank (8 * rings) u v r) (sym e) e)
+
+    all-twice : (c : List ℕ) → Rank c → DoneTwice c
+    all-twice c (in-first r l q) = earlier (ranked-below r l q)
+    all-twice c (in-second r l q) = ranked-below r l q
+
+    ended-level : (D : List ℕ → Type 0) (after : List ℕ) → Amid rings k m o (s .pair) before valid level D after → ((c : List ℕ) → Rank c → D c)
+        → ExactBelow (suc level) after
+    ended-level D after w all = level-done (next rings) (λ c. pairSeed rings k m o before c) (OnPair rings m o)
+        (pair-ground rings k m o (s .pair) before valid) level low (λ c. successorEntry rings k after c) D w
+        (λ c i e d. all c (rank-of c (live-pair rings k m o (s .pair) before valid c i e)))
+
+    pub swept-level : (after : List ℕ) → after ≡ pairSwept rings a b level now → Kept rings k (BothTables m o) before after × ExactBelow (suc level) after
+    unfolding pairSwept
+    swept-level after is = go (eqb (a .mover) (a .opponent)) refl
+      where
+        -- the sizes that the code goes by
+        sizes : (pairSwept rings a b level now ≡ elim (eqb (a .mover) (a .opponent)) [ true ↦ once | false ↦ twice ])
+        sizes = rw (s .first .mover-is, s .first .opponent-is, s .second .mover-is, s .second .opponent-is) refl
+
+        go : (c : Bool) → eqb (a .mover) (a .opponent) ≡ c → Kept rings k (BothTables m o) before after × ExactBelow (suc level) after
+        go true f =
+            let e : after ≡ once = is ∙ sizes ∙ rw f in
+            let q : m ≡ o = sym (s .first .mover-is) ∙ eqb-true (a .mover) (a .opponent) f ∙ s .first .opponent-is in
+            subst (λ (l : List ℕ). Kept rings k (BothTables m o) before l × ExactBelow (suc level) l) (sym e)
+            (kept-then rings k (BothTables m o) before now once (st .kept) once-kept, ended-level DoneOnce once once-amid (all-once q))
+        go false f =
+            let e : after ≡ twice = is ∙ sizes ∙ rw f in
+            subst (λ (l : List ℕ). Kept rings k (BothTables m o) before l × ExactBelow (suc level) l) (sym e)
+            (
+              kept-then rings k (BothTables m o) before once twice (kept-then rings k (BothTables m o) before now once (st .kept) once-kept) twice-kept,
+              ended-level DoneTwice twice twice-amid all-twice,
+            )
