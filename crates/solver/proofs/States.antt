@@ -160,8 +160,11 @@ module _ (rings k m o : ℕ) (a b : Table) (before : List ℕ) (s : Setting (len
     swept-level after is = go (eqb (a .mover) (a .opponent)) refl
       where
         -- the sizes that the code goes by
-        sizes : (pairSwept rings a b level now ≡ elim (eqb (a .mover) (a .opponent)) [ true ↦ once | false ↦ twice ])
-        sizes = rw (s .first .mover-is, s .first .opponent-is, s .second .mover-is, s .second .opponent-is) refl
+        sizes : pairSwept rings a b level now ≡ elim (eqb (a .mover) (a .opponent)) [ true ↦ once | false ↦ twice ]
+        sizes = ap₂ (λ (u v : ℕ). elim (eqb (a .mover) (a .opponent)) as (λ c. List ℕ) [
+          | true ↦ swept rings a (b .own .start) level now u
+          | false ↦ swept rings b (a .own .start) level (swept rings a (b .own .start) level now u) v
+        ]) (ap₂ (size (8 * rings)) (s .first .mover-is) (s .first .opponent-is)) (ap₂ (size (8 * rings)) (s .second .mover-is) (s .second .opponent-is))
 
         go : (c : Bool) → eqb (a .mover) (a .opponent) ≡ c → Kept rings k (BothTables m o) before after × ExactBelow (suc level) after
         go true f =
