@@ -2,3 +2,4 @@ pub mod Probed
 pub mod Sweeping
 pub mod Parts
 pub mod States
+pub mod NextLevel

@@ -87,7 +87,7 @@ module _ (rings k m o : ℕ) (a b : Table) (before : List ℕ) (s : Setting (len
       go (inr q) = let w = whose o m (q .0) (q .1) in in-second (rank c) (rank-in rings o m c w) (sym (unrank-of rings o m c w))
 
   -- an exact table holds depths below the level, and draws
-  exact-most : (level limit : ℕ) (now : List ℕ) → level ≤ suc limit → level ≤ voidEntry → ExactBelow level now
+  pub exact-most : (level limit : ℕ) (now : List ℕ) → level ≤ suc limit → level ≤ voidEntry → ExactBelow level now
       → (c : List ℕ) → InPair rings m o c → (entryAt rings k now c ≤ limit) ⊎ (entryAt rings k now c ≡ drawEntry)
   exact-most level limit now h v x c i = go (before-or-not (next rings) (λ y. pairSeed rings k m o before y) level c)
     where

@@ -1,0 +1,212 @@
+-- The step to the next level: no entry of the pair or of its lower tables lies between the level and the least depth that was found. Assumes nothing.
+use mathlib.Core.Path.{_≡_, refl, sym, ap, subst, _∙_}
+use mathlib.Core.Bool.{Bool, true, false}
+use mathlib.Core.List.{List}
+use mathlib.Core.Logic.{_⊎_, inl, inr}
+use Prim.Native.Nat.{ℕ, zero, suc, _+_, _-_, _*_, _≤_, _<_, min}
+use native.Mathlib.Omega.{arith}
+use lib.Dec.{eqb, ltb}
+use lib.ListN.{length, getD}
+use borrow.Author.Tests.{eqb-true, eqb-false, ltb-true, ltb-false, ne-eqb}
+use Rattle.board.specs.Board.{count}
+use Rattle.layout.specs.Layout.{start, end, tablebaseLength}
+use Rattle.layout.proofs.OneToOne.{InRange, end-is, end-within}
+use Rattle.game.specs.Game.{drawEntry, voidEntry, Entry}
+use Rattle.game.proofs.Levels.{Exact, skip, stop}
+use Rattle.outcomes.specs.Places.{place, entryAt, successorEntry}
+use Rattle.outcomes.specs.Whole.{next}
+use Rattle.outcomes.specs.Pair.{Pair, pairSeed, LowerValid}
+use Rattle.outcomes.specs.Filled.{BothTables, Kept}
+use Rattle.outcomes.proofs.Ranked.{InTable, place-at, rank-in}
+use Rattle.outcomes.proofs.PairGame.{Counts, own, lower, lower-turned, OnPair}
+use Rattle.outcomes.proofs.Entries.{entry-place, entry-two, entry-three}
+use Rattle.outcomes.proofs.PairLevels.{pair-ground}
+use Rattle.parts.specs.Parts.{partOf, leastFrom}
+use Rattle.parts.proofs.LeastDepth.{least-cases, part-below}
+use Rattle.solver.specs.declared.tables.Table.{Table}
+use Rattle.solver.specs.Tables.{lowerStart, lowerEnd, Located}
+use Rattle.solver.specs.Levels.{pairSwept, pairLeast, levelAfter}
+use Rattle.solver.specs.Solve.{Setting}
+use Rattle.solver.proofs.Probed.{lower-starts}
+use Rattle.solver.proofs.Parts.{in-range, part-room, part-place}
+use Rattle.solver.proofs.States.{ExactBelow, State, exact-most, swept-level}
+
+pub lower-ends : (points k m o : ℕ) → 4 ≤ o → lowerEnd points k m o ≡ end points k (o - 1) m
+unfolding lowerEnd
+lower-ends points k m o h = rw (ne-eqb o 3 (λ e. omega arith), lowerEnd)
+
+-- the lower part of a table lies within the tablebase
+pub lower-room : (rings k x y : ℕ) (t : Table) → Located (8 * rings) k x y t → Pair rings k x y → (n : ℕ) → n ≡ tablebaseLength (8 * rings) k
+    → (t .lower .start ≤ t .lower .end) × (t .lower .end ≤ n)
+unfolding lowerStart lowerEnd
+lower-room rings k x y t l p n e = go (eqb y 3) refl
+  where
+    go : (c : Bool) → eqb y 3 ≡ c → (t .lower .start ≤ t .lower .end) × (t .lower .end ≤ n)
+    go true f =
+        let u : t .lower .start ≡ 0 = l .lower-start-is ∙ rw (f, lowerStart) in
+        let v : t .lower .end ≡ 0 = l .lower-end-is ∙ rw (f, lowerEnd) in
+        (omega arith, omega arith)
+    go false f =
+        let d : y ≡ 3 → ⊥ = eqb-false y 3 f in
+        let h : 4 ≤ y = omega (arith, p .opponent-low) in
+        let r : InRange k (y - 1) x = record {
+          mover-low = omega arith;
+          mover-high = omega (arith, p .opponent-high);
+          opponent-low = p .mover-low;
+          opponent-high = p .mover-high;
+        } in
+        let u = l .lower-start-is ∙ lower-starts (8 * rings) k x y h in
+        let v = l .lower-end-is ∙ lower-ends (8 * rings) k x y h in
+        (omega (arith, u, v, end-is (8 * rings) k (y - 1) x), omega (arith, v, end-within (8 * rings) k r))
+
+-- a board of the lower table stands in that part
+lower-place : (rings k x y : ℕ) (t : Table) → Located (8 * rings) k x y t → (b : List ℕ) → 3 ≤ count 1 b → suc (count 1 b) ≡ y → InTable rings (count 1 b) x b
+    → (t .lower .start ≤ place rings k b) × (place rings k b < t .lower .end)
+lower-place rings k x y t l b three e w =
+    let h : 4 ≤ y = omega arith in
+    let c : count 1 b ≡ y - 1 = omega arith in
+    let i : InTable rings (y - 1) x b = record { values = w .values; points = w .points; mover = c; opponent = w .opponent } in
+    let q = place-at rings k (y - 1) x b i in
+    let u = l .lower-start-is ∙ lower-starts (8 * rings) k x y h in
+    let v = l .lower-end-is ∙ lower-ends (8 * rings) k x y h in
+    (omega (arith, q, u), omega (arith, q, v, end-is (8 * rings) k (y - 1) x, rank-in rings (y - 1) x b i))
+
+module _ (rings k m o : ℕ) (a b : Table) (now : List ℕ) (s : Setting (length now) rings k m o a b) (level : ℕ) where
+  turned : Pair rings k o m
+  turned = record {
+    small = s .pair .small;
+    mover-low = s .pair .opponent-low;
+    mover-high = s .pair .opponent-high;
+    opponent-low = s .pair .mover-low;
+    opponent-high = s .pair .mover-high;
+  }
+
+  abbrev ones : ℕ
+  ones = leastFrom level (partOf (a .own .start) (a .own .end) now)
+
+  abbrev twos : ℕ
+  twos = leastFrom level (partOf (b .own .start) (b .own .end) now)
+
+  abbrev threes : ℕ
+  threes = leastFrom level (partOf (a .lower .start) (a .lower .end) now)
+
+  abbrev fours : ℕ
+  fours = leastFrom level (partOf (b .lower .start) (b .lower .end) now)
+
+  least-is : pairLeast a b level now ≡ min (min ones twos) (min threes fours)
+  unfolding pairLeast
+  least-is = refl
+
+  -- the least depth is from the level on, and at most void
+  pub least-range : level < voidEntry → (level ≤ pairLeast a b level now) × (pairLeast a b level now ≤ voidEntry)
+  least-range h =
+      let p = at ones (least-cases level _) in
+      let q = at twos (least-cases level _) in
+      let r = at threes (least-cases level _) in
+      let u = at fours (least-cases level _) in
+      (omega (arith, least-is, p .0, q .0, r .0, u .0), omega (arith, least-is, p .1))
+    where
+      at : (e : ℕ) → (e ≡ voidEntry) ⊎ ((level ≤ e) × (e < voidEntry)) → (level ≤ e) × (e ≤ voidEntry)
+      at e (inl q) = (omega arith, omega arith)
+      at e (inr q) = (q .0, omega (arith, q .1))
+
+  -- and no entry from the level on lies below it
+  pub least-entry : (c : List ℕ) → OnPair rings m o c → 3 ≤ count 1 c → level ≤ entryAt rings k now c
+      → (pairLeast a b level now ≤ entryAt rings k now c) ⊎ (voidEntry ≤ entryAt rings k now c)
+  least-entry c i three h = go (i .counts)
+    where
+      g : level ≤ getD now (place rings k c) 0
+      g = omega (arith, entry-place rings k now c)
+
+      found : (e : ℕ) → pairLeast a b level now ≤ e → (e ≤ getD now (place rings k c) 0) ⊎ (voidEntry ≤ getD now (place rings k c) 0)
+          → (pairLeast a b level now ≤ entryAt rings k now c) ⊎ (voidEntry ≤ entryAt rings k now c)
+      found e l (inl q) = inl (omega (arith, entry-place rings k now c))
+      found e l (inr q) = inr (omega (arith, entry-place rings k now c))
+
+      whose : (x y : ℕ) → count 1 c ≡ x → count 2 c ≡ y → InTable rings x y c
+      whose x y e f = record { values = i .values; points = i .points; mover = e; opponent = f }
+
+      go : Counts m o (count 1 c) (count 2 c) → (pairLeast a b level now ≤ entryAt rings k now c) ⊎ (voidEntry ≤ entryAt rings k now c)
+      go (own (inl q)) =
+          let p = part-place rings k m o a (s .first) c (whose m o (q .0) (q .1)) in
+          found ones (omega (arith, least-is)) (part-below level (a .own .start) (a .own .end) now
+          (part-room rings k m o a (s .first) (in-range {rings = rings} (s .pair) (inl (refl, refl))) (length now) (s .room)) (place rings k c) (p .0) (p .1) g)
+      go (own (inr q)) =
+          let p = part-place rings k o m b (s .second) c (whose o m (q .0) (q .1)) in
+          found twos (omega (arith, least-is)) (part-below level (b .own .start) (b .own .end) now
+          (part-room rings k o m b (s .second) (in-range {rings = rings} (s .pair) (inr (refl, refl))) (length now) (s .room)) (place rings k c) (p .0) (p .1) g)
+      go (lower e f) =
+          let p = lower-place rings k m o a (s .first) c three e (whose (count 1 c) m refl f) in
+          found threes (omega (arith, least-is)) (part-below level (a .lower .start) (a .lower .end) now
+          (lower-room rings k m o a (s .first) (s .pair) (length now) (s .room) .1) (place rings k c) (p .0) (p .1) g)
+      go (lower-turned e f) =
+          let p = lower-place rings k o m b (s .second) c three e (whose (count 1 c) o refl f) in
+          found fours (omega (arith, least-is)) (part-below level (b .lower .start) (b .lower .end) now
+          (lower-room rings k o m b (s .second) turned (length now) (s .room) .1) (place rings k c) (p .0) (p .1) g)
+
+-- the setting of a tablebase of the same length
+pub setting-now : {n rings k m o : ℕ} {a b : Table} → (l : ℕ) → l ≡ n → Setting n rings k m o a b → Setting l rings k m o a b
+setting-now l e s = record { pair = s .pair; room = e ∙ s .room; first = s .first; second = s .second }
+
+module _ (rings k m o : ℕ) (a b : Table) (before : List ℕ) (s : Setting (length before) rings k m o a b) (valid : LowerValid rings k m o before)
+    (limit level : ℕ) (now : List ℕ) (small : limit < voidEntry) (h : level ≤ limit) (st : State rings k m o a b before s valid limit level now) where
+  module _ (after : List ℕ) (is : after ≡ pairSwept rings a b level now) where
+    kept : Kept rings k (BothTables m o) before after
+    kept = swept-level rings k m o a b before s valid limit level now small h st after is .0
+
+    exact : ExactBelow rings k m o a b before s valid (suc level) after
+    exact = swept-level rings k m o a b before s valid limit level now small h st after is .1
+
+    here : Setting (length after) rings k m o a b
+    here = setting-now (length after) (kept .same-length) s
+
+    least : ℕ
+    least = pairLeast a b level after
+
+    -- nothing between the level and the least depth
+    nothing : 0 < level → (c : List ℕ) → OnPair rings m o c → level ≤ successorEntry rings k after c → successorEntry rings k after c < least
+        → successorEntry rings k after c < voidEntry → ⊥
+    unfolding least
+    nothing pos c i l u v = go (ltb (count 1 c) 3) refl
+      where
+        go : (t : Bool) → ltb (count 1 c) 3 ≡ t → ⊥
+        go true f = omega (arith, entry-two rings k after c (ltb-true (count 1 c) 3 f))
+        go false f = let e = entry-three rings k after c (ltb-false (count 1 c) 3 f) in
+            bad e (least-entry rings k m o a b after here level c i (ltb-false (count 1 c) 3 f) (omega arith))
+          where
+            bad : successorEntry rings k after c ≡ entryAt rings k after c
+                → (pairLeast a b level after ≤ entryAt rings k after c) ⊎ (voidEntry ≤ entryAt rings k after c) → ⊥
+            bad e (inl q) = omega arith
+            bad e (inr q) = omega arith
+
+    pub state-next : (then : ℕ) → then ≡ levelAfter a b level after → (level < then) × State rings k m o a b before s valid limit then after
+    unfolding levelAfter least
+    state-next then e = go (eqb level 0) refl
+      where
+        state : (v : ℕ) → ExactBelow rings k m o a b before s valid v after
+            → (voidEntry < v → (c : List ℕ) → OnPair rings m o c → Entry (next rings) (λ x. pairSeed rings k m o before x) c (successorEntry rings k after c))
+            → State rings k m o a b before s valid limit v after
+        state v x w = record {
+          kept = kept;
+          exact = x;
+          most = exact-most rings k m o a b before s valid (suc level) limit after (omega arith) (omega arith) exact;
+          over = w;
+        }
+
+        go : (c : Bool) → eqb level 0 ≡ c → (level < then) × State rings k m o a b before s valid limit then after
+        go true f =
+            let z = eqb-true level 0 f in
+            let q : then ≡ 1 = e ∙ rw (f, levelAfter) in
+            let x : ExactBelow rings k m o a b before s valid 1 after = subst (λ (v : ℕ). ExactBelow rings k m o a b before s valid (suc v) after) z exact in
+            (omega arith, subst (λ (v : ℕ). State rings k m o a b before s valid limit v after) (sym q) (state 1 x (λ l. absurd (omega arith))))
+        go false f =
+            let d : level ≡ 0 → ⊥ = eqb-false level 0 f in
+            let q : then ≡ suc (pairLeast a b level after) = e ∙ rw (f, levelAfter) in
+            let r = least-range rings k m o a b after here level (omega arith) in
+            let x = skip (next rings) (λ c. pairSeed rings k m o before c) (OnPair rings m o) (pair-ground rings k m o (s .pair) before valid) level (omega arith)
+                (λ c. successorEntry rings k after c) exact (pairLeast a b level after) (r .0) (λ c i l u. nothing (omega arith) c i l u (omega (arith, r .1))) in
+            let w : voidEntry < suc (pairLeast a b level after) → (c : List ℕ) → OnPair rings m o c
+                → Entry (next rings) (λ y. pairSeed rings k m o before y) c (successorEntry rings k after c) =
+                λ v. stop (next rings) (λ c. pairSeed rings k m o before c) (OnPair rings m o) (pair-ground rings k m o (s .pair) before valid) level (omega arith)
+                (λ c. successorEntry rings k after c) exact (λ c i l u. nothing (omega arith) c i l (omega arith) u) in
+            (omega (arith, r .0), subst (λ (v : ℕ). State rings k m o a b before s valid limit v after) (sym q) (state (suc (pairLeast a b level after)) x w))
