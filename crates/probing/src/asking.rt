@@ -5,7 +5,7 @@ ghost use Prim.Native.Nat.{ℕ, _+_, _*_, _<_};
 ghost use lib.ListN.{length};
 ghost use Rattle.lists.specs.Lists.{any, member};
 ghost use Rattle.sets.specs.Sets.{bit, elements, setFrom};
-ghost use Rattle.board.specs.Board.{count, boardOf};
+ghost use Rattle.board.specs.Board.{boardOf};
 ghost use Rattle.sizes.specs.Binomial.{BinomialTable};
 ghost use Rattle.rules.specs.Ply.{targets, afterPly, removable, listedFrom, listedMoves, successors};
 ghost use Rattle.plies.specs.Masks.{NeighbourMasks, MillMasks};
@@ -14,8 +14,11 @@ ghost use Rattle.probing.specs.Probes.{key, asked};
 ghost use Rattle.probing.specs.Questions.{Readable, answers};
 use super::entries;
 
-// The entry of a position that has none.
-const VOID: u16 = 65534;
+// Entries below are depths; this one is void, the next draw.
+pub const VOID: u32 = 65534;
+
+// The keys of the entries that are not won start here: the lost ones by depth, then void and draw.
+pub const NOT_WON: u32 = 65536;
 
 // The tables of the successors, by where they start, and the keys that are asked for: from low on and below high.
 pub struct Question {
@@ -29,10 +32,11 @@ pub struct Question {
 fn key(entry: u16) -> u32
     ensures { λ r. ⌜ r ≡ key entry ⌝ }
 {
-    if (entry % 2 == 1) & (entry < VOID) {
-        return entry as u32;
+    let e = entry as u32;
+    if (e % 2 == 1) & (e < VOID) {
+        return e;
     }
-    65536 + entry as u32
+    NOT_WON + e
 }
 
 // Whether an entry is asked for.
