@@ -89,8 +89,10 @@ fn some_removal(
     requires { ⌜ BinomialTable (now binomials) ⌝ }
     requires { ⌜ Placed rings position ⌝ }
     requires { ⌜ Readable (length (now tablebase)) rings question (boardOf (8 * rings) position) ⌝ }
-    requires { ⌜ (slide + 31 < 65536) × ((r : ℕ) → bit removals r ≡ 1 → member (slide + r) (listedMoves rings (boardOf (8 * rings) position)) ≡ true) ⌝ }
-    ensures { λ r. ⌜ r ≡ any (λ p. answers (now (tablebase .entry)) question (boardOf (8 * rings) position) (afterPly (boardOf (8 * rings) position) (slide + p))) (elements 32 removals) ⌝ }
+    requires { ⌜ (slide + 31 < 65536)
+        × ((r : ℕ) → bit removals r ≡ 1 → member (slide + r) (listedMoves rings (boardOf (8 * rings) position)) ≡ true) ⌝ }
+    ensures { λ r. ⌜ r ≡ any (λ p. answers (now (tablebase .entry)) question (boardOf (8 * rings) position)
+        (afterPly (boardOf (8 * rings) position) (slide + p))) (elements 32 removals) ⌝ }
 {
     let mut left = removals;
     while left != 0 {
@@ -110,7 +112,7 @@ fn some_removal(
     false
 }
 
-// Whether some move of one stone to the points of a set leads to such a position.
+// Whether some move of one stone, to the set of its targets, leads to such a position.
 fn some_target(
     tablebase: &[u16],
     binomials: &[u32; 625],
@@ -126,7 +128,8 @@ fn some_target(
     requires { ⌜ Placed rings position ⌝ }
     requires { ⌜ Readable (length (now tablebase)) rings question (boardOf (8 * rings) position) ⌝ }
     requires { ⌜ (bit (position .mover) from ≡ 1) × (tos ≡ setFrom (targets rings (boardOf (8 * rings) position) from)) ⌝ }
-    ensures { λ r. ⌜ r ≡ any (λ m. answers (now (tablebase .entry)) question (boardOf (8 * rings) position) (afterPly (boardOf (8 * rings) position) m)) (listedFrom rings (boardOf (8 * rings) position) from (targets rings (boardOf (8 * rings) position) from)) ⌝ }
+    ensures { λ r. ⌜ r ≡ any (λ m. answers (now (tablebase .entry)) question (boardOf (8 * rings) position)
+        (afterPly (boardOf (8 * rings) position) m)) (listedFrom rings (boardOf (8 * rings) position) from (targets rings (boardOf (8 * rings) position) from)) ⌝ }
 {
     let mut left = tos;
     while left != 0 {
@@ -163,7 +166,8 @@ pub fn some_successor(
     requires { ⌜ MillMasks rings (now mills) ⌝ }
     requires { ⌜ Placed rings position ⌝ }
     requires { ⌜ Readable (length (now tablebase)) rings question (boardOf (8 * rings) position) ⌝ }
-    ensures { λ r. ⌜ r ≡ any (λ c. answers (now (tablebase .entry)) question (boardOf (8 * rings) position) c) (successors (λ n c. removable n c) rings (boardOf (8 * rings) position)) ⌝ }
+    ensures { λ r. ⌜ r ≡ any (λ c. answers (now (tablebase .entry)) question (boardOf (8 * rings) position) c)
+        (successors (λ n c. removable n c) rings (boardOf (8 * rings) position)) ⌝ }
 {
     let mut left = position.mover;
     while left != 0 {

@@ -39,7 +39,8 @@ pub fn hits(
     requires { ⌜ Placed rings position ⌝ }
     requires { ⌜ Reads (length (now tablebase)) (8 * rings) (count 1 (boardOf (8 * rings) position)) (count 2 (boardOf (8 * rings) position)) same fewer ⌝ }
     requires { ⌜ level < voidEntry ⌝ }
-    ensures { λ r. ⌜ r ≡ hit (λ b. successors (λ n c. removable n c) rings b) (λ b. probe (now (tablebase .entry)) same fewer (count 2 (boardOf (8 * rings) position)) b) level (boardOf (8 * rings) position) ⌝ }
+    ensures { λ r. ⌜ r ≡ hit (λ b. successors (λ n c. removable n c) rings b)
+        (λ b. probe (now (tablebase .entry)) same fewer (count 2 (boardOf (8 * rings) position)) b) level (boardOf (8 * rings) position) ⌝ }
 {
     if level % 2 == 1 {
         let lost = Question {
@@ -75,7 +76,8 @@ pub fn decided(
     requires { ⌜ MillMasks rings (now mills) ⌝ }
     requires { ⌜ Placed rings position ⌝ }
     requires { ⌜ Reads (length (now tablebase)) (8 * rings) (count 1 (boardOf (8 * rings) position)) (count 2 (boardOf (8 * rings) position)) same fewer ⌝ }
-    ensures { λ r. ⌜ r ≡ decided (λ b. successors (λ n c. removable n c) rings b) (λ b. probe (now (tablebase .entry)) same fewer (count 2 (boardOf (8 * rings) position)) b) (boardOf (8 * rings) position) ⌝ }
+    ensures { λ r. ⌜ r ≡ decided (λ b. successors (λ n c. removable n c) rings b)
+        (λ b. probe (now (tablebase .entry)) same fewer (count 2 (boardOf (8 * rings) position)) b) (boardOf (8 * rings) position) ⌝ }
 {
     let lost = Question {
         same: same,
@@ -111,7 +113,8 @@ pub fn void_after(
     requires { ⌜ MillMasks rings (now mills) ⌝ }
     requires { ⌜ Placed rings position ⌝ }
     requires { ⌜ Reads (length (now tablebase)) (8 * rings) (count 1 (boardOf (8 * rings) position)) (count 2 (boardOf (8 * rings) position)) same fewer ⌝ }
-    ensures { λ r. ⌜ r ≡ any (λ b. eqb (probe (now (tablebase .entry)) same fewer (count 2 (boardOf (8 * rings) position)) b) voidEntry) (successors (λ n c. removable n c) rings (boardOf (8 * rings) position)) ⌝ }
+    ensures { λ r. ⌜ r ≡ any (λ b. eqb (probe (now (tablebase .entry)) same fewer (count 2 (boardOf (8 * rings) position)) b) voidEntry)
+        (successors (λ n c. removable n c) rings (boardOf (8 * rings) position)) ⌝ }
 {
     let void = Question {
         same: same,
