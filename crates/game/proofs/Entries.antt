@@ -1,12 +1,12 @@
 -- What an entry says: "Even is lost for the mover, odd is won." So says an entry that is true, and the test whether the successors' entries decide a
 -- position. Assumes nothing.
-use mathlib.Core.Path.{_≡_, sym}
-use mathlib.Core.Bool.{true, false}
+use mathlib.Core.Path.{_≡_, refl, sym}
+use mathlib.Core.Bool.{true, false, _&&_, _||_}
 use mathlib.Core.List.{List, List·Memᴰ}
 use mathlib.Core.Logic.{_⊎_, inl, inr}
 use Prim.Native.Nat.{ℕ, _<_, _%_}
 use native.Mathlib.Omega.{arith}
-use lib.Dec.{eqb}
+use lib.Dec.{eqb, ltb}
 use borrow.Author.Tests.{ltb-true, eqb-true, lt-ltb, eq-eqb}
 use Rattle.lists.specs.Lists.{any, all}
 use Rattle.lists.proofs.Tests.{clash, untrue, and-left, and-right, and-both, or-cases, or-left, or-right, any-member, all-member, any-none, all-fails}
@@ -22,6 +22,10 @@ lost-is {e} h = (eqb-true (e % 2) 0 (and-left _ _ h), ltb-true e voidEntry (and-
 pub lost-of : {e : ℕ} → e % 2 ≡ 0 → e < voidEntry → isLost e ≡ true
 unfolding isLost
 lost-of {e} o l = and-both _ _ (eq-eqb (e % 2) 0 o) (lt-ltb e voidEntry l)
+
+pub won-test : (e : ℕ) → isWon e ≡ (eqb (e % 2) 1 && ltb e voidEntry)
+unfolding isWon
+won-test e = refl
 
 pub won-is : {e : ℕ} → isWon e ≡ true → (e % 2 ≡ 1) × (e < voidEntry)
 unfolding isWon
@@ -67,6 +71,10 @@ module _ {Pos : Type 0} (next : Pos → List Pos) (seed : Pos → Seed) (p : Pos
 
 -- decided: one successor is lost, or all are won; undecided: none is lost, and one is not won
 module _ {Pos : Type 0} (next : Pos → List Pos) (t : Pos → ℕ) (p : Pos) where
+  pub decided-is : decided next t p ≡ (any (λ q. isLost (t q)) (next p) || all (λ q. isWon (t q)) (next p))
+  unfolding decided
+  decided-is = refl
+
   pub decided-cases : decided next t p ≡ true
       → ((q : Pos) × List·Memᴰ q (next p) × (isLost (t q) ≡ true)) ⊎ ((q : Pos) → List·Memᴰ q (next p) → isWon (t q) ≡ true)
   unfolding decided

@@ -18,11 +18,11 @@ use Rattle.game.proofs.Depths.{won-odd, lost-even, won-depth, lost-dept
 use Rattle.game.proofs.Tables.{Ground, Upto}
 
 module _ {Pos : Type 0} (next : Pos → List Pos) (t : Pos → ℕ) (n : ℕ) (p : Pos) where
-  hit-odd : n % 2 ≡ 1 → hit next t n p ≡ any (λ q. eqb (suc (t q)) n) (next p)
+  pub hit-odd : n % 2 ≡ 1 → hit next t n p ≡ any (λ q. eqb (suc (t q)) n) (next p)
   unfolding hit
   hit-odd o = rw (eq-eqb (n % 2) 1 o, hit)
 
-  hit-even : n % 2 ≡ 0 → hit next t n p ≡ all (λ q. eqb (t q % 2) 1 && ltb (t q) n) (next p)
+  pub hit-even : n % 2 ≡ 0 → hit next t n p ≡ all (λ q. eqb (t q % 2) 1 && ltb (t q) n) (next p)
   unfolding hit
   hit-even o = let f : eqb (n % 2) 1 ≡ false = ne-eqb (n % 2) 1 (λ h. omega arith) in rw (f, hit)
 

@@ -1,9 +1,9 @@
 -- What a probe reads, by the stones of the side to move, and that the place lies within the tablebase. Assumes nothing.
-use mathlib.Core.Path.{_≡_, refl, sym, ap, subst}
+use mathlib.Core.Path.{_≡_, refl, sym, subst}
 use mathlib.Core.Bool.{Bool, true, false}
 use mathlib.Core.List.{List}
 use mathlib.Core.Logic.{inl, inr}
-use Prim.Native.Nat.{ℕ, suc, _+_, _-_, _*_, _≤_, _<_}
+use Prim.Native.Nat.{ℕ, _+_, _-_, _*_, _≤_, _<_}
 use native.Mathlib.Omega.{arith}
 use lib.Dec.{eqb, ltb}
 use lib.ListN.{getD}
@@ -33,6 +33,16 @@ module _ (tablebase : List ℕ) (same fewer o : ℕ) (b : List ℕ) where
   pub probe-fewer : (count 1 b ≡ o → ⊥) → 3 ≤ count 1 b → probe tablebase same fewer o b ≡ getD tablebase (fewer + rank b) 0
   unfolding probe
   probe-fewer n h = rw (ne-eqb (count 1 b) o n, le-ltb (count 1 b) 3 h, probe)
+
+  -- 16 bits, as all entries of the tablebase
+  pub probe-small : ((i : ℕ) → getD tablebase i 0 < 65536) → probe tablebase same fewer o b < 65536
+  unfolding probe
+  probe-small h = go (eqb (count 1 b) o) refl (ltb (count 1 b) 3) refl
+    where
+      go : (x : Bool) → eqb (count 1 b) o ≡ x → (y : Bool) → ltb (count 1 b) 3 ≡ y → probe tablebase same fewer o b < 65536
+      go true p y q = rw (p, probe) (h (same + rank b))
+      go false p true q = rw (p, q, probe) (omega arith)
+      go false p false q = rw (p, q, probe) (h (fewer + rank b))
 
 -- the tables that are read lie within the tablebase
 module _ {room points m o same fewer : ℕ} (reads : Reads room points m o same fewer) where

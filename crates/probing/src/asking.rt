@@ -5,7 +5,7 @@ ghost use Prim.Native.Nat.{ℕ, _+_, _*_, _<_};
 ghost use lib.ListN.{length};
 ghost use Rattle.lists.specs.Lists.{any, member};
 ghost use Rattle.sets.specs.Sets.{bit, elements, setFrom};
-ghost use Rattle.board.specs.Board.{count, boardOf};
+ghost use Rattle.board.specs.Board.{boardOf};
 ghost use Rattle.sizes.specs.Binomial.{BinomialTable};
 ghost use Rattle.rules.specs.Ply.{targets, afterPly, removable, listedFrom, listedMoves, successors};
 ghost use Rattle.plies.specs.Masks.{NeighbourMasks, MillMasks};
@@ -14,8 +14,11 @@ ghost use Rattle.probing.specs.Probes.{key, asked};
 ghost use Rattle.probing.specs.Questions.{Readable, answers};
 use super::entries;
 
-// The entry of a position that has none.
-const VOID: u16 = 65534;
+// Entries below are depths; this one is void, the next draw.
+pub const VOID: u32 = 65534;
+
+// The keys of the entries that are not won start here: the lost ones by depth, then void and draw.
+pub const NOT_WON: u32 = 65536;
 
 // The tables of the successors, by where they start, and the keys that are asked for: from low on and below high.
 pub struct Question {
@@ -29,10 +32,11 @@ pub struct Question {
 fn key(entry: u16) -> u32
     ensures { λ r. ⌜ r ≡ key entry ⌝ }
 {
-    if (entry % 2 == 1) & (entry < VOID) {
-        return entry as u32;
+    let e = entry as u32;
+    if (e % 2 == 1) & (e < VOID) {
+        return e;
     }
-    65536 + entry as u32
+    NOT_WON + e
 }
 
 // Whether an entry is asked for.
@@ -85,8 +89,10 @@ fn some_removal(
     requires { ⌜ BinomialTable (now binomials) ⌝ }
     requires { ⌜ Placed rings position ⌝ }
     requires { ⌜ Readable (length (now tablebase)) rings question (boardOf (8 * rings) position) ⌝ }
-    requires { ⌜ (slide + 31 < 65536) × ((r : ℕ) → bit removals r ≡ 1 → member (slide + r) (listedMoves rings (boardOf (8 * rings) position)) ≡ true) ⌝ }
-    ensures { λ r. ⌜ r ≡ any (λ p. answers (now (tablebase .entry)) question (boardOf (8 * rings) position) (afterPly (boardOf (8 * rings) position) (slide + p))) (elements 32 removals) ⌝ }
+    requires { ⌜ (slide + 31 < 65536)
+        × ((r : ℕ) → bit removals r ≡ 1 → member (slide + r) (listedMoves rings (boardOf (8 * rings) position)) ≡ true) ⌝ }
+    ensures { λ r. ⌜ r ≡ any (λ p. answers (now (tablebase .entry)) question (boardOf (8 * rings) position)
+        (afterPly (boardOf (8 * rings) position) (slide + p))) (elements 32 removals) ⌝ }
 {
     let mut left = removals;
     while left != 0 {
@@ -106,7 +112,7 @@ fn some_removal(
     false
 }
 
-// Whether some move of one stone to the points of a set leads to such a position.
+// Whether some move of one stone, to the set of its targets, leads to such a position.
 fn some_target(
     tablebase: &[u16],
     binomials: &[u32; 625],
@@ -122,7 +128,8 @@ fn some_target(
     requires { ⌜ Placed rings position ⌝ }
     requires { ⌜ Readable (length (now tablebase)) rings question (boardOf (8 * rings) position) ⌝ }
     requires { ⌜ (bit (position .mover) from ≡ 1) × (tos ≡ setFrom (targets rings (boardOf (8 * rings) position) from)) ⌝ }
-    ensures { λ r. ⌜ r ≡ any (λ m. answers (now (tablebase .entry)) question (boardOf (8 * rings) position) (afterPly (boardOf (8 * rings) position) m)) (listedFrom rings (boardOf (8 * rings) position) from (targets rings (boardOf (8 * rings) position) from)) ⌝ }
+    ensures { λ r. ⌜ r ≡ any (λ m. answers (now (tablebase .entry)) question (boardOf (8 * rings) position)
+        (afterPly (boardOf (8 * rings) position) m)) (listedFrom rings (boardOf (8 * rings) position) from (targets rings (boardOf (8 * rings) position) from)) ⌝ }
 {
     let mut left = tos;
     while left != 0 {
@@ -159,7 +166,8 @@ pub fn some_successor(
     requires { ⌜ MillMasks rings (now mills) ⌝ }
     requires { ⌜ Placed rings position ⌝ }
     requires { ⌜ Readable (length (now tablebase)) rings question (boardOf (8 * rings) position) ⌝ }
-    ensures { λ r. ⌜ r ≡ any (λ c. answers (now (tablebase .entry)) question (boardOf (8 * rings) position) c) (successors (λ n c. removable n c) rings (boardOf (8 * rings) position)) ⌝ }
+    ensures { λ r. ⌜ r ≡ any (λ c. answers (now (tablebase .entry)) question (boardOf (8 * rings) position) c)
+        (successors (λ n c. removable n c) rings (boardOf (8 * rings) position)) ⌝ }
 {
     let mut left = position.mover;
     while left != 0 {

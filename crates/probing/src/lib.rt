@@ -1,8 +1,12 @@
 // What a tablebase says of a position's successors: their entries, and the questions that a solver asks of them.
 mod asking;
 mod entries;
+mod judging;
 
 pub use asking::Question;
 pub use asking::some_successor;
 pub use entries::entry_after;
 pub use entries::entry_in;
+pub use judging::decided;
+pub use judging::hits;
+pub use judging::void_after;

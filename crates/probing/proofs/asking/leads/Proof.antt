@@ -1,16 +1,13 @@
 -- `probing::asking::leads` meets its contract: the position after the move stands for the board after it. Assumes nothing.
 use mathlib.Core.Path.{_≡_, sym, ap, ap₂, subst, _∙_}
-use mathlib.Core.List.{List}
-use Prim.Native.Nat.{ℕ, _*_}
+use Prim.Native.Nat.{_*_}
 use native.Mathlib.Omega.{arith}
-use lib.ListN.{length}
-use Rattle.board.specs.declared.position.Position.{Position}
 use Rattle.board.specs.Board.{count, boardOf}
 use Rattle.board.proofs.OneToOne.{opponent-count}
 use Rattle.rules.specs.Ply.{afterPly}
 use Rattle.plies.specs.Positions.{Placed}
 use Rattle.plies.proofs.After.{after-leads, after-placed, after-board}
-use Rattle.probing.specs.Probes.{probe, Left, Reads, asked}
+use Rattle.probing.specs.Probes.{probe, asked}
 use Rattle.probing.proofs.Reading.{left-of}
 use borrow.Author.Needs.{needs}
 use Rattle.probing.proofs.asking.leads.Statement.{statement}

@@ -2,7 +2,7 @@
 use mathlib.Core.Path.{_≡_, refl, sym, _∙_}
 use Prim.Native.Nat.{ℕ, _+_, _*_}
 use native.Mathlib.Omega.{arith}
-use Rattle.sets.specs.Sets.{bit, without}
+use Rattle.sets.specs.Sets.{without}
 use Rattle.sets.proofs.Elements.{Taken, taken}
 use Rattle.sets.proofs.Passing.{Sought, sought-none, sought-more, sought-found, sought-all}
 use Rattle.board.specs.Board.{boardOf}

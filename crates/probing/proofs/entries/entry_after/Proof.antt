@@ -1,6 +1,6 @@
 -- `probing::entries::entry_after` meets its contract: the stones counted are the board's. Assumes nothing.
 use mathlib.Core.Path.{_≡_, sym, _∙_}
-use Prim.Native.Nat.{ℕ, _*_}
+use Prim.Native.Nat.{_*_}
 use native.Mathlib.Omega.{arith}
 use Rattle.board.specs.Board.{count, boardOf}
 use Rattle.board.proofs.OneToOne.{mover-count}

@@ -1,0 +1,35 @@
+-- `probing::judging::void_after` meets its contract. Assumes nothing.
+use mathlib.Core.Path.{_∙_}
+use mathlib.Core.List.{List}
+use Prim.Native.Nat.{ℕ, _*_}
+use native.Mathlib.Omega.{arith}
+use Rattle.board.specs.Board.{count, boardOf}
+use Rattle.rules.specs.Ply.{removable, successors}
+use Rattle.probing.proofs.Answers.{some-void}
+use borrow.Author.Needs.{needs}
+use Rattle.probing.proofs.judging.void_after.Statement.{statement}
+use Rattle.probing.proofs.judging.void_after.Tie as tie
+
+add-t10 : tie.Need-add-t10
+add-t10 c = search needs
+
+add-t11 : tie.Need-add-t11
+add-t11 c = search needs
+
+add-t12 : tie.Need-add-t12
+add-t12 c = search needs
+
+some-successor-requires : tie.Need-some-successor-requires
+some-successor-requires c κs = search needs
+
+returns : tie.Need-returns
+returns c =
+    let k = c .before in
+    let a = k .before .args in
+    let b : List ℕ = boardOf (8 * a .rings) (a .position) in
+    c .some-successor .ensures
+    ∙ some-void (a .tablebase .now) (λ i. omega (arith, k .shared-slice-known .given i)) (a .same) (a .fewer) (count 2 b)
+    (successors (λ n d. removable n d) (a .rings) b)
+
+pub void-after-spec : {M : Type 1} → statement M
+void-after-spec = tie.close (tie.spec add-t10 add-t11 add-t12 some-successor-requires returns)
