@@ -1,5 +1,5 @@
 -- The first refusal among picked rows: the row at which a call is turned back, and what an accepted call has passed. Assumes nothing.
-use mathlib.Core.Path.{_≡_, refl, sym, _∙_}
+use mathlib.Core.Path.{_≡_, refl, sym, ap, _∙_}
 use mathlib.Core.Bool.{Bool, true, false, cond, false≢true}
 use mathlib.Core.List.{List, [], _∷_, _++_}
 use Prim.Native.Nat.{ℕ, zero, suc}
@@ -8,7 +8,7 @@ use lib.Dec.{ltb}
 use lib.ListN.{length}
 use borrow.Author.Tests.{ltb-true}
 use Rattle.lists.specs.Lists.{all}
-use Rattle.morris.specs.Refusals.{Picked, first}
+use Rattle.morris.specs.Refusals.{Pick, Picked, table, pickedRows, first, refusal}
 
 -- the conditions of the first i rows do not hold
 abbrev pub Passed : ℕ → List Picked → Type 0
@@ -61,16 +61,35 @@ first-kept (r ∷ rs) ss n z e = go (r .holds) refl (first-kept rs ss n z)
     go true p rest = e ∙ rw (p, first)
     go false p rest = rw (p, first) (rest (rw (p, first) at e))
 
--- where some rows are passed, one row more decides
-pub one-more : (rs : List Picked) (t : Bool) (n : ℕ) → all (λ r. ltb 0 (r .number)) rs ≡ true → 0 ≡ first rs
-    → first (rs ++ (record { holds = t; number = n } ∷ [])) ≡ cond t n 0
-one-more rs t n a e = go rs (passed rs a (sym e)) ∙ alone t
+-- where some rows are passed, those after them decide
+pub first-after : (rs ss : List Picked) → all (λ r. ltb 0 (r .number)) rs ≡ true → 0 ≡ first rs → first (rs ++ ss) ≡ first ss
+first-after rs ss a e = go rs (passed rs a (sym e))
   where
-    go : (rs : List Picked) → Passed (length rs) rs
-        → first (rs ++ (record { holds = t; number = n } ∷ [])) ≡ first (record { holds = t; number = n } ∷ [])
+    go : (rs : List Picked) → Passed (length rs) rs → first (rs ++ ss) ≡ first ss
     go [] p = refl
     go (r ∷ rs) p = rw (p .0, first) (go rs (p .1))
 
+-- one row after them
+pub one-more : (rs : List Picked) (t : Bool) (n : ℕ) → all (λ r. ltb 0 (r .number)) rs ≡ true → 0 ≡ first rs
+    → first (rs ++ (record { holds = t; number = n } ∷ [])) ≡ cond t n 0
+one-more rs t n a e = first-after rs (record { holds = t; number = n } ∷ []) a e ∙ alone t
+  where
     alone : (t : Bool) → first (record { holds = t; number = n } ∷ []) ≡ cond t n 0
     alone true = refl
     alone false = refl
+
+-- what a call picks in two parts, the rows of one before those of the other
+module _ (whole earlier later : List Pick) (split : pickedRows table whole ≡ pickedRows table earlier ++ pickedRows table later) where
+  pub earlier-refused : (n : ℕ) → (n ≡ 0 → ⊥) → n ≡ refusal earlier → n ≡ refusal whole
+  earlier-refused n z e = first-kept (pickedRows table earlier) (pickedRows table later) n z e ∙ sym (ap first split)
+
+  module _ (numbered : all (λ r. ltb 0 (r .number)) (pickedRows table earlier) ≡ true) where
+    pub later-decides : 0 ≡ refusal earlier → refusal whole ≡ refusal later
+    later-decides e = ap first split ∙ first-after (pickedRows table earlier) (pickedRows table later) numbered e
+
+    pub both-accepted : refusal whole ≡ 0 → (refusal earlier ≡ 0) × (refusal later ≡ 0)
+    both-accepted e = go (refusal earlier) refl
+      where
+        go : (n : ℕ) → refusal earlier ≡ n → (refusal earlier ≡ 0) × (refusal later ≡ 0)
+        go zero p = (p, sym (later-decides (sym p)) ∙ e)
+        go (suc n) p = absurd (omega (arith, earlier-refused (suc n) (λ z. absurd (omega arith)) (sym p)))

@@ -1,3 +1,3 @@
-pub mod Places
 pub mod Whole
+pub mod Places
 pub mod Pair
