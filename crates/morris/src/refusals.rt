@@ -96,7 +96,11 @@ fn stones_above(k: u8, board: &[u8]) -> bool
     ensures { λ r. ⌜ r ≡ countAbove k (count 1 (now (board .entry))) (count 2 (now (board .entry))) ⌝ }
 {
     let position = board::position_of(board);
-    count_above(k as u32, sets::count(position.mover), sets::count(position.opponent))
+    count_above(
+        k as u32,
+        sets::count(position.mover),
+        sets::count(position.opponent),
+    )
 }
 
 // K outside 3 to 9, or a count above it.

@@ -10,27 +10,25 @@ use Rattle.morris.proofs.refusals.of_limit.Statement.{statement}
 use Rattle.morris.proofs.refusals.of_limit.Tie as tie
 
 -- what is picked, and the part of it that comes before the limit
-whole : (s : tie.Start) → List Pick
+abbrev whole : tie.Start → List Pick
 whole s = limitPicks (s .args .rings) (s .args .k) (s .args .above) (s .args .limit) (s .args .length)
 
-largest : (s : tie.Start) → List Pick
-largest s = largestPicks (s .args .rings) (s .args .k) (s .args .above) (s .args .length)
+abbrev earlier : tie.Start → List Pick
+earlier s = largestPicks (s .args .rings) (s .args .k) (s .args .above) (s .args .length)
 
 -- past that part, the limit decides
 decided : (c : tie.Else1) → refusal (whole (c .before .before)) ≡ refusal (pick wrongLimit (limitWrong (c .before .before .args .limit)) ∷ [])
-unfolding largest whole
 decided c =
     let s = c .before .before in
-    later-decides (whole s) (largest s) (pick wrongLimit (limitWrong (s .args .limit)) ∷ []) refl refl (sym (c .if1 .left) ∙ c .before .of-largest .ensures)
+    later-decides (whole s) (earlier s) (pick wrongLimit (limitWrong (s .args .limit)) ∷ []) refl refl (sym (c .if1 .left) ∙ c .before .of-largest .ensures)
 
 of-largest-requires : tie.Need-of-largest-requires
 of-largest-requires c κs = search needs
 
 returns : tie.Need-returns
-unfolding largest whole
 returns c =
     let s = c .before .before in
-    earlier-refused (whole s) (largest s) (pick wrongLimit (limitWrong (s .args .limit)) ∷ []) refl (c .before .of-largest .result) (c .if1 .taken)
+    earlier-refused (whole s) (earlier s) (pick wrongLimit (limitWrong (s .args .limit)) ∷ []) refl (c .before .of-largest .result) (c .if1 .taken)
     (c .before .of-largest .ensures)
 
 limit-wrong-requires : tie.Need-limit-wrong-requires

@@ -27,8 +27,8 @@ returns c =
     let b : List ℕ = s .args .board .now in
     let e = p .position-of .ensures in
     c .count-above .ensures
-    ∙ ap₂ (λ (m o : ℕ). countAbove (s .args .k) m o) (c .before .before .count .ensures ∙ mover-stones b _ (s .pre) e)
-    (c .before .count2 .ensures ∙ opponent-stones b _ (s .pre) e)
+    ∙ ap₂ (λ (m o : ℕ). countAbove (s .args .k) m o) (c .before .before .count .ensures ∙ mover-stones b _ e (s .pre))
+    (c .before .count2 .ensures ∙ opponent-stones b _ e (s .pre))
 
 pub stones-above-spec : {M : Type 1} → statement M
 stones-above-spec =

@@ -20,7 +20,7 @@ returns c =
     let b : List ℕ = s .args .board .now in
     let e = c .before .position-of .ensures in
     c .sides-wrong .ensures
-    ∙ ap₂ (λ (m o : ℕ). countsWrong (s .args .points) m o) (mover-stones b _ (s .pre) e) (opponent-stones b _ (s .pre) e)
+    ∙ ap₂ (λ (m o : ℕ). countsWrong (s .args .points) m o) (mover-stones b _ e (s .pre)) (opponent-stones b _ e (s .pre))
 
 pub stones-wrong-spec : {M : Type 1} → statement M
 stones-wrong-spec = tie.close (tie.spec position-of-requires sides-wrong-requires returns)
