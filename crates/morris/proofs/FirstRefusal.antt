@@ -1,5 +1,5 @@
 -- The first refusal among picked rows: the row at which a call is turned back, and what an accepted call has passed. Assumes nothing.
-use mathlib.Core.Path.{_≡_, refl, sym, ap, _∙_}
+use mathlib.Core.Path.{_≡_, refl, sym, _∙_}
 use mathlib.Core.Bool.{Bool, true, false, cond, false≢true}
 use mathlib.Core.List.{List, [], _∷_, _++_}
 use Prim.Native.Nat.{ℕ, zero, suc}
@@ -8,7 +8,7 @@ use lib.Dec.{ltb}
 use lib.ListN.{length}
 use borrow.Author.Tests.{ltb-true}
 use Rattle.lists.specs.Lists.{all}
-use Rattle.morris.specs.Refusals.{Pick, Picked, table, pickedRows, first, refusal}
+use Rattle.morris.specs.Refusals.{Picked, first}
 
 -- the conditions of the first i rows do not hold
 abbrev pub Passed : ℕ → List Picked → Type 0
@@ -69,27 +69,19 @@ first-after rs ss a e = go rs (passed rs a (sym e))
     go [] p = refl
     go (r ∷ rs) p = rw (p .0, first) (go rs (p .1))
 
--- one row after them
+-- no refusal among all: none among the first, none among those after them
+pub both-passed : (rs ss : List Picked) → all (λ r. ltb 0 (r .number)) rs ≡ true → first (rs ++ ss) ≡ 0 → (first rs ≡ 0) × (first ss ≡ 0)
+both-passed rs ss a e = go (first rs) refl
+  where
+    go : (n : ℕ) → first rs ≡ n → (first rs ≡ 0) × (first ss ≡ 0)
+    go zero p = (p, sym (first-after rs ss a (sym p)) ∙ e)
+    go (suc n) p = absurd (omega (arith, first-kept rs ss (suc n) (λ z. absurd (omega arith)) (sym p)))
+
+-- one row, and one row after some that are passed
+pub first-cons : (t : Bool) (n : ℕ) (rs : List Picked) → first (record { holds = t; number = n } ∷ rs) ≡ cond t n (first rs)
+first-cons true n rs = refl
+first-cons false n rs = refl
+
 pub one-more : (rs : List Picked) (t : Bool) (n : ℕ) → all (λ r. ltb 0 (r .number)) rs ≡ true → 0 ≡ first rs
     → first (rs ++ (record { holds = t; number = n } ∷ [])) ≡ cond t n 0
-one-more rs t n a e = first-after rs (record { holds = t; number = n } ∷ []) a e ∙ alone t
-  where
-    alone : (t : Bool) → first (record { holds = t; number = n } ∷ []) ≡ cond t n 0
-    alone true = refl
-    alone false = refl
-
--- what a call picks in two parts, the rows of one before those of the other
-module _ (whole earlier later : List Pick) (split : pickedRows table whole ≡ pickedRows table earlier ++ pickedRows table later) where
-  pub earlier-refused : (n : ℕ) → (n ≡ 0 → ⊥) → n ≡ refusal earlier → n ≡ refusal whole
-  earlier-refused n z e = first-kept (pickedRows table earlier) (pickedRows table later) n z e ∙ sym (ap first split)
-
-  module _ (numbered : all (λ r. ltb 0 (r .number)) (pickedRows table earlier) ≡ true) where
-    pub later-decides : 0 ≡ refusal earlier → refusal whole ≡ refusal later
-    later-decides e = ap first split ∙ first-after (pickedRows table earlier) (pickedRows table later) numbered e
-
-    pub both-accepted : refusal whole ≡ 0 → (refusal earlier ≡ 0) × (refusal later ≡ 0)
-    both-accepted e = go (refusal earlier) refl
-      where
-        go : (n : ℕ) → refusal earlier ≡ n → (refusal earlier ≡ 0) × (refusal later ≡ 0)
-        go zero p = (p, sym (later-decides (sym p)) ∙ e)
-        go (suc n) p = absurd (omega (arith, earlier-refused (suc n) (λ z. absurd (omega arith)) (sym p)))
+one-more rs t n a e = first-after rs (record { holds = t; number = n } ∷ []) a e ∙ first-cons t n []

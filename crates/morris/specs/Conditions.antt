@@ -43,13 +43,17 @@ countAbove k m o = ltb k m || ltb k o
 abbrev pub largestWrong : ℕ → Bool → Bool
 largestWrong k above = ltb k 3 || ltb 9 k || above
 
--- 6: the length of a tablebase is not exact
+-- 6: tablebase length not exact
 abbrev pub tablebaseWrong : ℕ → ℕ → ℕ → Bool
 tablebaseWrong rings k n = not (eqb n (tablebaseLength (8 * rings) k))
 
+-- "Limit: 0 to 65,533 plies."
+abbrev pub largestLimit : ℕ
+largestLimit = 65533
+
 -- 10: above 65,533
 abbrev pub limitWrong : ℕ → Bool
-limitWrong limit = ltb 65533 limit
+limitWrong limit = ltb largestLimit limit
 
 -- 7: a target shorter than what it is to hold
 abbrev pub targetShort : ℕ → ℕ → Bool
@@ -63,7 +67,7 @@ rankWrong points m o r = leb (size points m o) r
 abbrev pub moveWrong : ℕ → List ℕ → ℕ → Bool
 moveWrong rings b move = not (member move (listedMoves rings b))
 
--- 9: the mover has no ply
+-- 9: best move sought, mover blocked
 abbrev pub moverBlocked : ℕ → List ℕ → Bool
 moverBlocked rings b = isEmpty (listedMoves rings b)
 
@@ -105,11 +109,11 @@ largestPicks rings k above n = pick wrongLargest (largestWrong k above) ∷ pick
 abbrev pub tablebasePicks : ℕ → List ℕ → ℕ → ℕ → List Pick
 tablebasePicks rings b k n = largestPicks rings k (countAbove k (count 1 b) (count 2 b)) n ++ boardPicks rings b
 
--- and for the entry looked up besides; 12 is void there
+-- and for the entry looked up besides; 12: void there
 abbrev pub lookupPicks : ℕ → List ℕ → ℕ → List ℕ → List Pick
 lookupPicks rings b k tablebase = pick voidEntry (isVoid (entryAt rings k tablebase b)) ∷ tablebasePicks rings b k (length tablebase)
 
--- and for a best move instead; 12 is void in any successor
+-- and for a best move instead; 12: void in any successor
 abbrev pub bestMovePicks : ℕ → List ℕ → ℕ → List ℕ → List Pick
 bestMovePicks rings b k tablebase =
     pick blockedMover (moverBlocked rings b) ∷ pick voidEntry (successorVoid rings k tablebase b) ∷ tablebasePicks rings b k (length tablebase)
@@ -127,7 +131,7 @@ abbrev pub tablesPicks : ℕ → ℕ → ℕ → ℕ → ℕ → ℕ → List Pi
 tablesPicks rings m o k limit n =
     pick wrongRings (ringsWrong rings) ∷ pick wrongCounts (countsWrong (8 * rings) m o) ∷ limitPicks rings k (countAbove k m o) limit n
 
--- and for the lower tables besides; 12 is void there
+-- and for the lower tables besides; 12: void there
 abbrev pub pairPicks : ℕ → ℕ → ℕ → ℕ → ℕ → List ℕ → List Pick
 pairPicks rings m o k limit tablebase = pick voidEntry (lowerVoid rings k tablebase m o) ∷ tablesPicks rings m o k limit (length tablebase)
 

@@ -15,7 +15,7 @@ ghost use Rattle.morris.specs.LookupCall.{looked, lookupCall};
 ghost use Rattle.morris.specs.ReadFrameCall.{frameRead, readFrameCall};
 ghost use Rattle.morris.specs.WriteFrameCall.{frameWritten, writeFrameCall, writeFrameTarget};
 
-// The entry that a refused call to fill leaves.
+// The entry of a position that was not filled.
 const VOID_ENTRY: u16 = 65534;
 
 // The rank of a board, or the number of a refusal.

@@ -39,6 +39,9 @@ pub const TOO_DEEP: u8 = 13;
 
 const FRAME: u8 = 14;
 
+// The highest limit, in plies.
+const LARGEST_LIMIT: u32 = 65533;
+
 // Rings other than 1, 2 or 3.
 fn rings_wrong(rings: u8) -> bool
     ensures { λ r. ⌜ r ≡ ringsWrong rings ⌝ }
@@ -119,11 +122,11 @@ fn tablebase_wrong(rings: u8, k: u8, length: usize) -> bool
     length != layout::tablebase_length(&binomials, 8 * rings as usize, k as usize)
 }
 
-// A limit above 65,533.
+// A limit above the highest.
 fn limit_wrong(limit: u32) -> bool
     ensures { λ r. ⌜ r ≡ limitWrong limit ⌝ }
 {
-    65533 < limit
+    LARGEST_LIMIT < limit
 }
 
 // The first refusal that rings and a board meet, or 0.

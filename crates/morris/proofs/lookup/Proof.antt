@@ -1,6 +1,6 @@
 -- `morris::lookup` meets its contract: a refusal of the board, K or the tablebase, then of a void entry, or the entry. Assumes nothing.
-use mathlib.Core.Path.{_≡_, refl, sym, ap, ap₂, _∙_}
-use mathlib.Core.Bool.{Bool}
+use mathlib.Core.Path.{_≡_, sym, ap, ap₂, _∙_}
+use mathlib.Core.Bool.{Bool, cond}
 use mathlib.Core.List.{List, [], _∷_}
 use Prim.Native.Nat.{ℕ, _+_, _*_, _^_, _≤_, _<_}
 use native.Mathlib.Omega.{arith}
@@ -13,23 +13,15 @@ use Rattle.ranking.specs.Rank.{rank}
 use Rattle.layout.specs.Layout.{start}
 use Rattle.outcomes.specs.Places.{place, entryAt, isVoid}
 use Rattle.outcomes.proofs.Boards.{place-of, place-within, place-sum, entry-read}
-use Rattle.morris.specs.Refusals.{Pick, pick, refusal, voidEntry}
+use Rattle.morris.specs.Refusals.{refusal}
 use Rattle.morris.specs.Conditions.{tablebasePicks, lookupPicks}
 use Rattle.morris.specs.Answers.{accepted}
 use Rattle.morris.specs.LookupCall.{lookupCall}
-use Rattle.morris.proofs.FirstRefusal.{earlier-refused, later-decides}
-use Rattle.morris.proofs.TablebaseConditions.{AcceptedEntry, accepted-entry}
+use Rattle.morris.proofs.TablebaseConditions.{AcceptedEntry, accepted-entry, lookup-refused, lookup-decides}
 use Rattle.morris.proofs.Positions.{few-points, mover-stones, opponent-stones, on-board, rank-back}
 use Rattle.morris.proofs.Answering.{answer-refused, answer-accepted}
 use Rattle.morris.proofs.lookup.Statement.{statement}
 use Rattle.morris.proofs.lookup.Tie as tie
-
--- what the call picks: before the entry is read, and then
-abbrev earlier : tie.Start → List Pick
-earlier s = tablebasePicks (s .args .rings) (s .args .board .now) (s .args .k) (length (s .args .tablebase .now))
-
-abbrev whole : tie.Start → List Pick
-whole s = lookupPicks (s .args .rings) (s .args .board .now) (s .args .k) (s .args .tablebase .now)
 
 abbrev entry : tie.Start → ℕ
 entry s = entryAt (s .args .rings) (s .args .k) (s .args .tablebase .now) (s .args .board .now)
@@ -45,17 +37,17 @@ abbrev reading : tie.After-rank → tie.Else1
 reading c = counting (c .before .before .before .before)
 
 -- past the first refusals, board and tablebase are accepted, and whether the entry is void decides
-passed-first : (c : tie.Else1) → 0 ≡ refusal (earlier (started c))
+passed-first : (c : tie.Else1)
+    → 0 ≡ refusal (tablebasePicks (started c .args .rings) (started c .args .board .now) (started c .args .k) (length (started c .args .tablebase .now)))
 passed-first c = sym (c .if1 .left) ∙ c .before .of-tablebase .ensures
 
 known : (c : tie.Else1)
     → AcceptedEntry (started c .args .rings) (started c .args .board .now) (started c .args .k) (length (started c .args .tablebase .now))
 known c = accepted-entry _ _ _ _ (sym (passed-first c))
 
-decided : (c : tie.Else1) (t : Bool) → isVoid (entry (started c)) ≡ t → refusal (whole (started c)) ≡ refusal (pick voidEntry t ∷ [])
-decided c t e =
-    later-decides (whole (started c)) (earlier (started c)) (pick voidEntry (isVoid (entry (started c))) ∷ []) refl refl (passed-first c)
-    ∙ ap (λ (u : Bool). refusal (pick voidEntry u ∷ [])) e
+decided : (c : tie.Else1) (t : Bool) → isVoid (entry (started c)) ≡ t
+    → refusal (lookupPicks (started c .args .rings) (started c .args .board .now) (started c .args .k) (started c .args .tablebase .now)) ≡ cond t 12 0
+decided c t e = lookup-decides _ _ _ _ (passed-first c) ∙ ap (λ (u : Bool). cond u 12 0) e
 
 -- the counts of the position are the board's
 mover-is : (c : tie.After-count2) → c .before .count .result ≡ count 1 (started (counting c) .args .board .now)
@@ -112,10 +104,10 @@ of-tablebase-requires c κs = search needs
 returns : tie.Need-returns
 unfolding lookupCall
 returns c =
-    let s = c .before .before .before .before in
+    let a = c .before .before .before .before .args in
     let n = c .before .of-tablebase .result in
     answer-refused n _ _ (c .if1 .taken)
-    (earlier-refused (whole s) (earlier s) (pick voidEntry (isVoid (entry s)) ∷ []) refl n (c .if1 .taken) (c .before .of-tablebase .ensures))
+    (lookup-refused (a .rings) (a .board .now) (a .k) (a .tablebase .now) n (c .if1 .taken) (c .before .of-tablebase .ensures))
 
 binomial-table-requires : tie.Need-binomial-table-requires
 binomial-table-requires c κs = search needs

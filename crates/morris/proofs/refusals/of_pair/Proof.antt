@@ -2,12 +2,13 @@
 -- nothing.
 use mathlib.Core.Path.{_≡_, refl, sym, ap, _∙_}
 use mathlib.Core.Bool.{Bool, false}
-use mathlib.Core.List.{List, [], _∷_}
+use mathlib.Core.List.{List}
 use Prim.Native.Nat.{_*_}
+use lib.ListN.{take}
 use borrow.Author.Needs.{needs}
-use Rattle.morris.specs.Refusals.{Picked, pick, table, pickedRows, refusal, wrongRings, wrongCounts}
+use Rattle.morris.specs.Refusals.{Picked, table, pickedRows, refusal}
 use Rattle.morris.specs.Conditions.{ringsWrong, countsWrong, countAbove, limitPicks, tablesPicks}
-use Rattle.morris.proofs.FirstRefusal.{meets, later-decides}
+use Rattle.morris.proofs.FirstRefusal.{meets, passes, first-after}
 use Rattle.morris.proofs.Conditions.{rings-right}
 use Rattle.morris.proofs.refusals.of_pair.Statement.{statement}
 use Rattle.morris.proofs.refusals.of_pair.Tie as tie
@@ -54,16 +55,15 @@ of-limit-requires c κs =
     rings-right (x .before .before .args .rings) (rings-passed x) .1
 
 returns-3 : tie.Need-returns-3
+unfolding rows
 returns-3 c =
     let y = c .before .before in
     let x = y .before .before in
     let a = x .before .before .args in
-    let counts = countsWrong (8 * a .rings) (a .mover) (a .opponent) in
-    let above = countAbove (a .k) (a .mover) (a .opponent) in
+    let earlier = take 2 (rows (x .before .before)) in
     c .of-limit .ensures ∙ ap (λ (t : Bool). refusal (limitPicks (a .rings) (a .k) t (a .limit) (a .length))) (c .before .count-above .ensures)
-    ∙ sym (later-decides (tablesPicks (a .rings) (a .mover) (a .opponent) (a .k) (a .limit) (a .length))
-    (pick wrongRings (ringsWrong (a .rings)) ∷ pick wrongCounts counts ∷ []) (limitPicks (a .rings) (a .k) above (a .limit) (a .length)) refl refl
-    (rw (rings-passed x, counts-passed y)))
+    ∙ sym (first-after earlier (pickedRows table (limitPicks (a .rings) (a .k) (countAbove (a .k) (a .mover) (a .opponent)) (a .limit) (a .length))) refl
+    (passes earlier (rings-passed x, (counts-passed y, tt))))
 
 pub of-pair-spec : {M : Type 1} → statement M
 of-pair-spec =

@@ -5,9 +5,9 @@ use mathlib.Core.List.{List}
 use Prim.Native.Nat.{ℕ}
 use borrow.Author.Needs.{needs}
 use Rattle.board.specs.Board.{count}
-use Rattle.morris.specs.Refusals.{refusal}
-use Rattle.morris.specs.Conditions.{countAbove, boardPicks, largestPicks, tablebasePicks}
-use Rattle.morris.proofs.FirstRefusal.{earlier-refused, later-decides}
+use Rattle.morris.specs.Refusals.{table, pickedRows, refusal}
+use Rattle.morris.specs.Conditions.{countAbove, boardPicks, largestPicks}
+use Rattle.morris.proofs.FirstRefusal.{first-kept, first-after}
 use Rattle.morris.proofs.Conditions.{Accepted, accepted-board}
 use Rattle.morris.proofs.Positions.{few-points}
 use Rattle.morris.proofs.refusals.of_tablebase.Statement.{statement}
@@ -27,8 +27,8 @@ returns : tie.Need-returns
 returns c =
     let a = c .before .before .before .args in
     let b : List ℕ = a .board .now in
-    earlier-refused (tablebasePicks (a .rings) b (a .k) (a .length)) (boardPicks (a .rings) b)
-    (largestPicks (a .rings) (a .k) (countAbove (a .k) (count 1 b) (count 2 b)) (a .length)) refl
+    first-kept (pickedRows table (boardPicks (a .rings) b))
+    (pickedRows table (largestPicks (a .rings) (a .k) (countAbove (a .k) (count 1 b) (count 2 b)) (a .length)))
     (c .before .of-board .result) (c .if1 .taken) (c .before .of-board .ensures)
 
 stones-above-requires : tie.Need-stones-above-requires
@@ -43,8 +43,8 @@ returns-2 c =
     let a = x .before .before .before .args in
     let b : List ℕ = a .board .now in
     c .of-largest .ensures ∙ ap (λ (t : Bool). refusal (largestPicks (a .rings) (a .k) t (a .length))) (c .before .stones-above .ensures)
-    ∙ sym (later-decides (tablebasePicks (a .rings) b (a .k) (a .length)) (boardPicks (a .rings) b)
-    (largestPicks (a .rings) (a .k) (countAbove (a .k) (count 1 b) (count 2 b)) (a .length)) refl refl (passed-board x))
+    ∙ sym (first-after (pickedRows table (boardPicks (a .rings) b))
+    (pickedRows table (largestPicks (a .rings) (a .k) (countAbove (a .k) (count 1 b) (count 2 b)) (a .length))) refl (passed-board x))
 
 pub of-tablebase-spec : {M : Type 1} → statement M
 of-tablebase-spec =
