@@ -148,11 +148,11 @@ pub enum Looked {
 pub fn lookup(rings: u8, board: &[u8], k: u8, tablebase: &[u16]) -> Looked
     ensures { λ r. ⌜ looked r ≡ lookupCall rings (now (board .entry)) k (now (tablebase .entry)) ⌝ }
 {
-    let refusal = refusals::of_tablebase(rings, board, k, tablebase.len());
+    let binomials = sizes::binomial_table();
+    let refusal = refusals::of_tablebase(&binomials, rings, board, k, tablebase.len());
     if refusal != 0 {
         return Looked::Refused(refusal);
     }
-    let binomials = sizes::binomial_table();
     let position = board::position_of(board);
     let mover = sets::count(position.mover) as usize;
     let opponent = sets::count(position.opponent) as usize;

@@ -4,6 +4,7 @@ ghost use Prim.Native.Nat.{_≤_};
 ghost use lib.ListN.{length};
 ghost use Rattle.sets.specs.Sets.{members};
 ghost use Rattle.board.specs.Board.{count};
+ghost use Rattle.sizes.specs.Binomial.{BinomialTable};
 ghost use Rattle.morris.specs.Refusals.{refusal};
 ghost use Rattle.morris.specs.Conditions.{ringsWrong, valueWrong, countsWrong, countAbove, largestWrong, tablebaseWrong, limitWrong};
 ghost use Rattle.morris.specs.Conditions.{boardPicks, countsPicks, targetPicks, largestPicks, tablebasePicks, limitPicks, fillPicks, tablesPicks, framePicks};
@@ -114,12 +115,12 @@ fn largest_wrong(k: u8, above: bool) -> bool
 }
 
 // The length of a tablebase not exact.
-fn tablebase_wrong(rings: u8, k: u8, length: usize) -> bool
+fn tablebase_wrong(binomials: &[u32; 625], rings: u8, k: u8, length: usize) -> bool
+    requires { ⌜ BinomialTable (now binomials) ⌝ }
     requires { ⌜ (rings ≤ 3) × (3 ≤ k) × (k ≤ 9) ⌝ }
     ensures { λ r. ⌜ r ≡ tablebaseWrong rings k length ⌝ }
 {
-    let binomials = sizes::binomial_table();
-    length != layout::tablebase_length(&binomials, 8 * rings as usize, k as usize)
+    length != layout::tablebase_length(binomials, 8 * rings as usize, k as usize)
 }
 
 // A limit above the highest.
@@ -181,36 +182,39 @@ pub fn of_counts(rings: u8, mover: u8, opponent: u8, room: usize) -> u8
 }
 
 // The first refusal that K and a tablebase of so many entries meet, or 0.
-fn of_largest(rings: u8, k: u8, above: bool, length: usize) -> u8
+fn of_largest(binomials: &[u32; 625], rings: u8, k: u8, above: bool, length: usize) -> u8
+    requires { ⌜ BinomialTable (now binomials) ⌝ }
     requires { ⌜ rings ≤ 3 ⌝ }
     ensures { λ r. ⌜ r ≡ refusal (largestPicks rings k above length) ⌝ }
 {
     if largest_wrong(k, above) {
         return LARGEST;
     }
-    if tablebase_wrong(rings, k, length) {
+    if tablebase_wrong(binomials, rings, k, length) {
         return TABLEBASE_LENGTH;
     }
     0
 }
 
 // The first refusal that rings, a board, K and a tablebase of so many entries meet, or 0.
-pub fn of_tablebase(rings: u8, board: &[u8], k: u8, length: usize) -> u8
+pub fn of_tablebase(binomials: &[u32; 625], rings: u8, board: &[u8], k: u8, length: usize) -> u8
+    requires { ⌜ BinomialTable (now binomials) ⌝ }
     ensures { λ r. ⌜ r ≡ refusal (tablebasePicks rings (now (board .entry)) k length) ⌝ }
 {
     let refusal = of_board(rings, board);
     if refusal != 0 {
         return refusal;
     }
-    of_largest(rings, k, stones_above(k, board), length)
+    of_largest(binomials, rings, k, stones_above(k, board), length)
 }
 
 // The first refusal that K, a limit and a tablebase of so many entries to fill meet, or 0.
-fn of_limit(rings: u8, k: u8, above: bool, limit: u32, length: usize) -> u8
+fn of_limit(binomials: &[u32; 625], rings: u8, k: u8, above: bool, limit: u32, length: usize) -> u8
+    requires { ⌜ BinomialTable (now binomials) ⌝ }
     requires { ⌜ rings ≤ 3 ⌝ }
     ensures { λ r. ⌜ r ≡ refusal (limitPicks rings k above limit length) ⌝ }
 {
-    let refusal = of_largest(rings, k, above, length);
+    let refusal = of_largest(binomials, rings, k, above, length);
     if refusal != 0 {
         return refusal;
     }
@@ -221,17 +225,27 @@ fn of_limit(rings: u8, k: u8, above: bool, limit: u32, length: usize) -> u8
 }
 
 // The first refusal that a call to fill a tablebase meets, or 0.
-pub fn of_fill(rings: u8, k: u8, limit: u32, length: usize) -> u8
+pub fn of_fill(binomials: &[u32; 625], rings: u8, k: u8, limit: u32, length: usize) -> u8
+    requires { ⌜ BinomialTable (now binomials) ⌝ }
     ensures { λ r. ⌜ r ≡ refusal (fillPicks rings k limit length) ⌝ }
 {
     if rings_wrong(rings) {
         return RINGS;
     }
-    of_limit(rings, k, false, limit, length)
+    of_limit(binomials, rings, k, false, limit, length)
 }
 
 // The first refusal that a call to fill a pair of tables meets before the lower tables are read, or 0.
-pub fn of_pair(rings: u8, mover: u8, opponent: u8, k: u8, limit: u32, length: usize) -> u8
+pub fn of_pair(
+    binomials: &[u32; 625],
+    rings: u8,
+    mover: u8,
+    opponent: u8,
+    k: u8,
+    limit: u32,
+    length: usize,
+) -> u8
+    requires { ⌜ BinomialTable (now binomials) ⌝ }
     ensures { λ r. ⌜ r ≡ refusal (tablesPicks rings mover opponent k limit length) ⌝ }
 {
     if rings_wrong(rings) {
@@ -241,7 +255,7 @@ pub fn of_pair(rings: u8, mover: u8, opponent: u8, k: u8, limit: u32, length: us
         return COUNTS;
     }
     let above = count_above(k as u32, mover as u32, opponent as u32);
-    of_limit(rings, k, above, limit, length)
+    of_limit(binomials, rings, k, above, limit, length)
 }
 
 // The first refusal that a frame meets before its stones are counted, or 0.

@@ -28,10 +28,10 @@ entry s = entryAt (s .args .rings) (s .args .k) (s .args .tablebase .now) (s .ar
 
 -- where the call started, from past the first refusals; and that, from where the counts and the rank are known
 abbrev started : tie.Else1 → tie.Start
-started c = c .before .before .before .before
+started c = c .before .before .before .before .before .before
 
 abbrev counting : tie.After-count2 → tie.Else1
-counting c = c .before .before .before .before
+counting c = c .before .before .before
 
 abbrev reading : tie.After-rank → tie.Else1
 reading c = counting (c .before .before .before .before)
@@ -98,22 +98,22 @@ entry-is c =
     let a = started (reading c) .args in
     ap (λ (i : ℕ). getD (a .tablebase .now) i 0) (at-place c) ∙ entry-read (a .rings) (a .k) (a .board .now) (a .tablebase .now)
 
+binomial-table-requires : tie.Need-binomial-table-requires
+binomial-table-requires c κs = search needs
+
 of-tablebase-requires : tie.Need-of-tablebase-requires
 of-tablebase-requires c κs = search needs
 
 returns : tie.Need-returns
 unfolding lookupCall
 returns c =
-    let a = c .before .before .before .before .args in
+    let a = c .before .before .before .before .before .before .args in
     let n = c .before .of-tablebase .result in
     answer-refused n _ _ (c .if1 .taken)
     (lookup-refused (a .rings) (a .board .now) (a .k) (a .tablebase .now) n (c .if1 .taken) (c .before .of-tablebase .ensures))
 
-binomial-table-requires : tie.Need-binomial-table-requires
-binomial-table-requires c κs = search needs
-
 position-of-requires : tie.Need-position-of-requires
-position-of-requires c κs = few-points _ _ (known (c .before) .board)
+position-of-requires c κs = few-points _ _ (known c .board)
 
 count-requires : tie.Need-count-requires
 count-requires c κs = search needs
@@ -132,14 +132,15 @@ start-requires c κs =
     let n = c .before in
     let w = known (counting n) in
     let i = w .in-tables .is-table in (
-      n .before .before .before .binomial-table .ensures,
+      counting n .before .before .before .binomial-table .ensures,
       omega (arith, few-points _ _ (w .board), w .tablebase .largest-high, mover-is n, opponent-is n, i),
     )
 
 rank-requires : tie.Need-rank-requires
 rank-requires c κs =
     let p = c .before .before .before .before .before in
-    (p .before .binomial-table .ensures, (few-points _ _ (known (p .before .before) .board), on-board _ _ (p .position-of .ensures)))
+    let x = p .before in
+    (x .before .before .before .binomial-table .ensures, (few-points _ _ (known x .board), on-board _ _ (p .position-of .ensures)))
 
 add-entry : tie.Need-add-entry
 add-entry c = omega (arith, small c)
@@ -167,9 +168,9 @@ pub lookup-spec : {M : Type 1} → statement M
 lookup-spec =
     tie.close
     (tie.spec
+    binomial-table-requires
     of-tablebase-requires
     returns
-    binomial-table-requires
     position-of-requires
     count-requires
     cast-mover

@@ -26,7 +26,7 @@ unfolding rows
 returns c = meets (rows (c .before .before)) 0 tt (sym (c .before .rings-wrong .ensures) ∙ c .if1 .taken)
 
 of-limit-requires : tie.Need-of-limit-requires
-of-limit-requires c κs = rings-right (c .before .before .args .rings) (rings-passed c) .1
+of-limit-requires c κs = let s = c .before .before in (s .pre, rings-right (s .args .rings) (rings-passed c) .1)
 
 returns-2 : tie.Need-returns-2
 unfolding rows

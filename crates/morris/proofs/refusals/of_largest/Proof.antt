@@ -2,6 +2,7 @@
 use mathlib.Core.Path.{_≡_, sym, _∙_}
 use mathlib.Core.Bool.{false}
 use mathlib.Core.List.{List}
+use native.Mathlib.Omega.{arith}
 use borrow.Author.Needs.{needs}
 use Rattle.morris.specs.Refusals.{Picked, table, pickedRows}
 use Rattle.morris.specs.Conditions.{largestWrong, largestPicks}
@@ -28,7 +29,7 @@ tablebase-wrong-requires : tie.Need-tablebase-wrong-requires
 tablebase-wrong-requires c κs =
     let s = c .before .before in
     let l = largest-right (s .args .k) (s .args .above) (largest-passed c) in
-    (s .pre, l .low, l .high)
+    (s .pre .0, omega (arith, s .pre .1, l))
 
 returns-2 : tie.Need-returns-2
 unfolding rows

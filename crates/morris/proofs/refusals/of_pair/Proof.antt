@@ -52,7 +52,8 @@ count-above-requires c κs = search needs
 of-limit-requires : tie.Need-of-limit-requires
 of-limit-requires c κs =
     let x = c .before .before .before in
-    rings-right (x .before .before .args .rings) (rings-passed x) .1
+    let s = x .before .before in
+    (s .pre, rings-right (s .args .rings) (rings-passed x) .1)
 
 returns-3 : tie.Need-returns-3
 unfolding rows

@@ -35,7 +35,7 @@ stones-above-requires : tie.Need-stones-above-requires
 stones-above-requires c κs = few-points _ _ (board c)
 
 of-largest-requires : tie.Need-of-largest-requires
-of-largest-requires c κs = board (c .before) .rings-high
+of-largest-requires c κs = (c .before .before .before .before .pre, board (c .before) .rings-high)
 
 returns-2 : tie.Need-returns-2
 returns-2 c =

@@ -7,9 +7,6 @@ use borrow.Author.Needs.{needs}
 use Rattle.morris.proofs.refusals.tablebase_wrong.Statement.{statement}
 use Rattle.morris.proofs.refusals.tablebase_wrong.Tie as tie
 
-binomial-table-requires : tie.Need-binomial-table-requires
-binomial-table-requires c κs = search needs
-
 mul-tablebase-length : tie.Need-mul-tablebase-length
 mul-tablebase-length c = search needs
 
@@ -17,9 +14,9 @@ tablebase-length-requires : tie.Need-tablebase-length-requires
 tablebase-length-requires c κs = search needs
 
 returns : tie.Need-returns
-returns c = ap (λ (n : ℕ). not (eqb (c .before .before .before .args .length) n)) (c .tablebase-length .ensures .0)
+returns c = ap (λ (n : ℕ). not (eqb (c .before .args .length) n)) (c .tablebase-length .ensures .0)
 
 pub tablebase-wrong-spec : {M : Type 1} → statement M
 tablebase-wrong-spec =
     tie.close
-    (tie.spec binomial-table-requires mul-tablebase-length tablebase-length-requires returns)
+    (tie.spec mul-tablebase-length tablebase-length-requires returns)
