@@ -7,7 +7,8 @@ ghost use Rattle.board.specs.Board.{count};
 ghost use Rattle.sizes.specs.Binomial.{BinomialTable};
 ghost use Rattle.morris.specs.Refusals.{refusal};
 ghost use Rattle.morris.specs.Conditions.{ringsWrong, valueWrong, countsWrong, countAbove, largestWrong, tablebaseWrong, limitWrong};
-ghost use Rattle.morris.specs.Conditions.{boardPicks, countsPicks, targetPicks, largestPicks, tablebasePicks, limitPicks, fillPicks, tablesPicks, framePicks};
+ghost use Rattle.morris.specs.Conditions.{boardPicks, countsPicks, targetPicks, framePicks};
+ghost use Rattle.morris.specs.Conditions.{largestPicks, tablebasePicks, limitPicks, fillPicks, tablesPicks};
 
 // The refusal numbers of document 01.
 const RINGS: u8 = 1;

@@ -23,10 +23,11 @@ use Rattle.morris.proofs.Answering.{answer-refused, answer-accepted}
 use Rattle.morris.proofs.lookup.Statement.{statement}
 use Rattle.morris.proofs.lookup.Tie as tie
 
+-- the entry that is looked up
 abbrev entry : tie.Start → ℕ
 entry s = entryAt (s .args .rings) (s .args .k) (s .args .tablebase .now) (s .args .board .now)
 
--- where the call started, from past the first refusals; and that, from where the counts and the rank are known
+-- the start of the call, seen from past the first refusals; and those passed, seen from where the counts and the rank are known
 abbrev started : tie.Else1 → tie.Start
 started c = c .before .before .before .before .before .before
 
