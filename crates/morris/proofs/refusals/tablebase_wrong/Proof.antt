@@ -1,5 +1,5 @@
 -- `morris::refusals::tablebase_wrong` meets its contract: the length is held to that of the tables. Assumes nothing.
-use mathlib.Core.Path.{ap, _∙_}
+use mathlib.Core.Path.{ap}
 use mathlib.Core.Bool.{not}
 use Prim.Native.Nat.{ℕ}
 use lib.Dec.{eqb}
