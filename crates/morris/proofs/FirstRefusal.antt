@@ -61,16 +61,27 @@ first-kept (r ∷ rs) ss n z e = go (r .holds) refl (first-kept rs ss n z)
     go true p rest = e ∙ rw (p, first)
     go false p rest = rw (p, first) (rest (rw (p, first) at e))
 
--- where some rows are passed, one row more decides
-pub one-more : (rs : List Picked) (t : Bool) (n : ℕ) → all (λ r. ltb 0 (r .number)) rs ≡ true → 0 ≡ first rs
-    → first (rs ++ (record { holds = t; number = n } ∷ [])) ≡ cond t n 0
-one-more rs t n a e = go rs (passed rs a (sym e)) ∙ alone t
+-- where some rows are passed, those after them decide
+pub first-after : (rs ss : List Picked) → all (λ r. ltb 0 (r .number)) rs ≡ true → 0 ≡ first rs → first (rs ++ ss) ≡ first ss
+first-after rs ss a e = go rs (passed rs a (sym e))
   where
-    go : (rs : List Picked) → Passed (length rs) rs
-        → first (rs ++ (record { holds = t; number = n } ∷ [])) ≡ first (record { holds = t; number = n } ∷ [])
+    go : (rs : List Picked) → Passed (length rs) rs → first (rs ++ ss) ≡ first ss
     go [] p = refl
     go (r ∷ rs) p = rw (p .0, first) (go rs (p .1))
 
-    alone : (t : Bool) → first (record { holds = t; number = n } ∷ []) ≡ cond t n 0
-    alone true = refl
-    alone false = refl
+-- no refusal among all: none among the first, none among those after them
+pub both-passed : (rs ss : List Picked) → all (λ r. ltb 0 (r .number)) rs ≡ true → first (rs ++ ss) ≡ 0 → (first rs ≡ 0) × (first ss ≡ 0)
+both-passed rs ss a e = go (first rs) refl
+  where
+    go : (n : ℕ) → first rs ≡ n → (first rs ≡ 0) × (first ss ≡ 0)
+    go zero p = (p, sym (first-after rs ss a (sym p)) ∙ e)
+    go (suc n) p = absurd (omega (arith, first-kept rs ss (suc n) (λ z. absurd (omega arith)) (sym p)))
+
+-- one row, and one row after some that are passed
+pub first-cons : (t : Bool) (n : ℕ) (rs : List Picked) → first (record { holds = t; number = n } ∷ rs) ≡ cond t n (first rs)
+first-cons true n rs = refl
+first-cons false n rs = refl
+
+pub one-more : (rs : List Picked) (t : Bool) (n : ℕ) → all (λ r. ltb 0 (r .number)) rs ≡ true → 0 ≡ first rs
+    → first (rs ++ (record { holds = t; number = n } ∷ [])) ≡ cond t n 0
+one-more rs t n a e = first-after rs (record { holds = t; number = n } ∷ []) a e ∙ first-cons t n []

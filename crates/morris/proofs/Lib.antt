@@ -4,6 +4,7 @@ pub mod Positions
 pub mod Play
 pub mod Answering
 pub mod FrameConditions
+pub mod TablebaseConditions
 pub mod RoundTrip
 pub mod FrameRoundTrip
 pub mod FrameCases

@@ -1,15 +1,18 @@
 -- The conditions of document 01's table, and what calls pick of it for their arguments. Assumes nothing.
 use mathlib.Core.Bool.{Bool, false, not, _||_}
-use mathlib.Core.List.{List, [], _∷_}
+use mathlib.Core.List.{List, [], _∷_, _++_}
 use Prim.Native.Nat.{ℕ, _+_, _*_}
 use lib.Dec.{eqb, leb, ltb}
 use lib.ListN.{length}
+use Rattle.lists.specs.Lists.{member, isEmpty}
 use Rattle.board.specs.Board.{count}
 use Rattle.sizes.specs.Size.{size}
-use Rattle.lists.specs.Lists.{member}
+use Rattle.layout.specs.Layout.{tablebaseLength}
 use Rattle.rules.specs.Ply.{listedMoves}
 use Rattle.frames.specs.Frame.{frameWrong, frameLength, ringsIn, boardIn}
-use Rattle.morris.specs.Refusals.{Pick, pick, wrongFrame, wrongRings, wrongLength, wrongValue, wrongCounts, wrongTarget, shortTarget, wrongRank, wrongMove}
+use Rattle.outcomes.specs.Places.{entryAt, isVoid, successorVoid, lowerVoid}
+use Rattle.morris.specs.Refusals.{Pick, pick, wrongFrame, wrongRings, wrongLength, wrongValue, wrongCounts}
+use Rattle.morris.specs.Refusals.{wrongLargest, wrongTablebase, wrongLimit, wrongTarget, shortTarget, wrongRank, wrongMove, blockedMover, voidEntry}
 
 -- 1: not 1, 2 or 3
 abbrev pub ringsWrong : ℕ → Bool
@@ -32,6 +35,26 @@ valueWrong (x ∷ b) = ltb 2 x || valueWrong b
 abbrev pub countsWrong : ℕ → ℕ → ℕ → Bool
 countsWrong points m o = ltb m 3 || ltb 9 m || ltb o 3 || ltb 9 o || ltb points (m + o)
 
+-- a count above K
+abbrev pub countAbove : ℕ → ℕ → ℕ → Bool
+countAbove k m o = ltb k m || ltb k o
+
+-- 11: K outside 3 to 9, or a count above K
+abbrev pub largestWrong : ℕ → Bool → Bool
+largestWrong k above = ltb k 3 || ltb 9 k || above
+
+-- 6: tablebase length not exact
+abbrev pub tablebaseWrong : ℕ → ℕ → ℕ → Bool
+tablebaseWrong rings k n = not (eqb n (tablebaseLength (8 * rings) k))
+
+-- "Limit: 0 to 65,533 plies."
+abbrev pub largestLimit : ℕ
+largestLimit = 65533
+
+-- 10: above 65,533
+abbrev pub limitWrong : ℕ → Bool
+limitWrong limit = ltb largestLimit limit
+
 -- 7: a target shorter than what it is to hold
 abbrev pub targetShort : ℕ → ℕ → Bool
 targetShort room n = ltb room n
@@ -43,6 +66,10 @@ rankWrong points m o r = leb (size points m o) r
 -- 8: not a listed move
 abbrev pub moveWrong : ℕ → List ℕ → ℕ → Bool
 moveWrong rings b move = not (member move (listedMoves rings b))
+
+-- 9: best move sought, mover blocked
+abbrev pub moverBlocked : ℕ → List ℕ → Bool
+moverBlocked rings b = isEmpty (listedMoves rings b)
 
 -- what every call picks for rings and a board
 abbrev pub boardPicks : ℕ → List ℕ → List Pick
@@ -73,6 +100,40 @@ targetPicks rings b room = pick wrongTarget (lengthWrong rings room) ∷ boardPi
 -- and for a move besides
 abbrev pub movePicks : ℕ → List ℕ → ℕ → ℕ → List Pick
 movePicks rings b move room = pick wrongMove (moveWrong rings b move) ∷ targetPicks rings b room
+
+-- what a call picks for K and a tablebase of so many entries, by whether a count is above K
+abbrev pub largestPicks : ℕ → ℕ → Bool → ℕ → List Pick
+largestPicks rings k above n = pick wrongLargest (largestWrong k above) ∷ pick wrongTablebase (tablebaseWrong rings k n) ∷ []
+
+-- what a call picks for rings, a board, K and a tablebase of so many entries
+abbrev pub tablebasePicks : ℕ → List ℕ → ℕ → ℕ → List Pick
+tablebasePicks rings b k n = largestPicks rings k (countAbove k (count 1 b) (count 2 b)) n ++ boardPicks rings b
+
+-- and for the entry looked up besides; 12: void there
+abbrev pub lookupPicks : ℕ → List ℕ → ℕ → List ℕ → List Pick
+lookupPicks rings b k tablebase = pick voidEntry (isVoid (entryAt rings k tablebase b)) ∷ tablebasePicks rings b k (length tablebase)
+
+-- and for a best move instead; 12: void in any successor
+abbrev pub bestMovePicks : ℕ → List ℕ → ℕ → List ℕ → List Pick
+bestMovePicks rings b k tablebase =
+    pick blockedMover (moverBlocked rings b) ∷ pick voidEntry (successorVoid rings k tablebase b) ∷ tablebasePicks rings b k (length tablebase)
+
+-- what a call picks for K, a limit and a tablebase of so many entries to fill, by whether a count is above K
+abbrev pub limitPicks : ℕ → ℕ → Bool → ℕ → ℕ → List Pick
+limitPicks rings k above limit n = pick wrongLimit (limitWrong limit) ∷ largestPicks rings k above n
+
+-- what a call picks to fill a tablebase: no count is given
+abbrev pub fillPicks : ℕ → ℕ → ℕ → ℕ → List Pick
+fillPicks rings k limit n = pick wrongRings (ringsWrong rings) ∷ limitPicks rings k false limit n
+
+-- what a call picks to fill a pair of tables
+abbrev pub tablesPicks : ℕ → ℕ → ℕ → ℕ → ℕ → ℕ → List Pick
+tablesPicks rings m o k limit n =
+    pick wrongRings (ringsWrong rings) ∷ pick wrongCounts (countsWrong (8 * rings) m o) ∷ limitPicks rings k (countAbove k m o) limit n
+
+-- and for the lower tables besides; 12: void there
+abbrev pub pairPicks : ℕ → ℕ → ℕ → ℕ → ℕ → List ℕ → List Pick
+pairPicks rings m o k limit tablebase = pick voidEntry (lowerVoid rings k tablebase m o) ∷ tablesPicks rings m o k limit (length tablebase)
 
 -- what a call picks for a frame
 abbrev pub framePicks : List ℕ → List Pick

@@ -8,4 +8,5 @@ pub mod MakeMoveCall
 pub mod ReadFrameCall
 pub mod WriteFrameCall
 pub mod RepresentativeCall
+pub mod LookupCall
 pub mod Cases

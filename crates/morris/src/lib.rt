@@ -11,8 +11,12 @@ ghost use Rattle.morris.specs.UnrankCall.{unranked, unrankCall, unrankTa
 ghost use Rattle.morris.specs.MovesCall.{listed, movesCall, movesList};
 ghost use Rattle.morris.specs.MakeMoveCall.{made, makeMoveCall, makeMoveTarget};
 ghost use Rattle.morris.specs.RepresentativeCall.{represented, representativeCall};
+ghost use Rattle.morris.specs.LookupCall.{looked, lookupCall};
 ghost use Rattle.morris.specs.ReadFrameCall.{frameRead, readFrameCall};
 ghost use Rattle.morris.specs.WriteFrameCall.{frameWritten, writeFrameCall, writeFrameTarget};
+
+// The entry of a position that was not filled.
+const VOID_ENTRY: u16 = 65534;
 
 // The rank of a board, or the number of a refusal.
 pub enum Ranked {
@@ -132,6 +136,32 @@ pub fn representative(rings: u8, board: &[u8]) -> Represented
     }
     let binomials = sizes::binomial_table();
     Represented::Rank(symmetry::representative_rank(&binomials, rings as usize, board) as u64)
+}
+
+// The entry of a board, or the number of a refusal.
+pub enum Looked {
+    Entry(u16),
+    Refused(u8),
+}
+
+// The entry of a board in a tablebase of largest count k: 65,535 draw, else plies to the end, even lost, odd won. Refusals: 1, 2, 3, 4, 11, 6, 12.
+pub fn lookup(rings: u8, board: &[u8], k: u8, tablebase: &[u16]) -> Looked
+    ensures { λ r. ⌜ looked r ≡ lookupCall rings (now (board .entry)) k (now (tablebase .entry)) ⌝ }
+{
+    let binomials = sizes::binomial_table();
+    let refusal = refusals::of_tablebase(&binomials, rings, board, k, tablebase.len());
+    if refusal != 0 {
+        return Looked::Refused(refusal);
+    }
+    let position = board::position_of(board);
+    let mover = sets::count(position.mover) as usize;
+    let opponent = sets::count(position.opponent) as usize;
+    let start = layout::start(&binomials, board.len(), k as usize, mover, opponent);
+    let entry = tablebase[start + ranking::rank(&binomials, board.len(), position)];
+    if entry == VOID_ENTRY {
+        return Looked::Refused(refusals::VOID);
+    }
+    Looked::Entry(entry)
 }
 
 // A frame taken apart: a position as two point sets, or the number of a refusal.

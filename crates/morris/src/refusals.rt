@@ -4,8 +4,11 @@ ghost use Prim.Native.Nat.{_≤_};
 ghost use lib.ListN.{length};
 ghost use Rattle.sets.specs.Sets.{members};
 ghost use Rattle.board.specs.Board.{count};
+ghost use Rattle.sizes.specs.Binomial.{BinomialTable};
 ghost use Rattle.morris.specs.Refusals.{refusal};
-ghost use Rattle.morris.specs.Conditions.{ringsWrong, valueWrong, countsWrong, boardPicks, countsPicks, targetPicks, framePicks};
+ghost use Rattle.morris.specs.Conditions.{ringsWrong, valueWrong, countsWrong, countAbove, largestWrong, tablebaseWrong, limitWrong};
+ghost use Rattle.morris.specs.Conditions.{boardPicks, countsPicks, targetPicks, framePicks};
+ghost use Rattle.morris.specs.Conditions.{largestPicks, tablebasePicks, limitPicks, fillPicks, tablesPicks};
 
 // The refusal numbers of document 01.
 const RINGS: u8 = 1;
@@ -18,13 +21,28 @@ pub const COUNTS: u8 = 4;
 
 pub const RANK: u8 = 5;
 
+const TABLEBASE_LENGTH: u8 = 6;
+
 const TARGET_LENGTH: u8 = 6;
 
 pub const SHORT_TARGET: u8 = 7;
 
 pub const MOVE: u8 = 8;
 
+pub const BLOCKED: u8 = 9;
+
+const LIMIT: u8 = 10;
+
+const LARGEST: u8 = 11;
+
+pub const VOID: u8 = 12;
+
+pub const TOO_DEEP: u8 = 13;
+
 const FRAME: u8 = 14;
+
+// The highest limit, in plies.
+const LARGEST_LIMIT: u32 = 65533;
 
 // Rings other than 1, 2 or 3.
 fn rings_wrong(rings: u8) -> bool
@@ -68,6 +86,49 @@ fn stones_wrong(points: u32, board: &[u8]) -> bool
 {
     let position = board::position_of(board);
     sides_wrong(points, position.mover, position.opponent)
+}
+
+// A count above K.
+fn count_above(k: u32, m: u32, o: u32) -> bool
+    ensures { λ r. ⌜ r ≡ countAbove k m o ⌝ }
+{
+    (k < m) | (k < o)
+}
+
+// A count of a board's stones above K.
+fn stones_above(k: u8, board: &[u8]) -> bool
+    requires { ⌜ length (now board) ≤ 24 ⌝ }
+    ensures { λ r. ⌜ r ≡ countAbove k (count 1 (now (board .entry))) (count 2 (now (board .entry))) ⌝ }
+{
+    let position = board::position_of(board);
+    count_above(
+        k as u32,
+        sets::count(position.mover),
+        sets::count(position.opponent),
+    )
+}
+
+// K outside 3 to 9, or a count above it.
+fn largest_wrong(k: u8, above: bool) -> bool
+    ensures { λ r. ⌜ r ≡ largestWrong k above ⌝ }
+{
+    (k < 3) | (9 < k) | above
+}
+
+// The length of a tablebase not exact.
+fn tablebase_wrong(binomials: &[u32; 625], rings: u8, k: u8, length: usize) -> bool
+    requires { ⌜ BinomialTable (now binomials) ⌝ }
+    requires { ⌜ (rings ≤ 3) × (3 ≤ k) × (k ≤ 9) ⌝ }
+    ensures { λ r. ⌜ r ≡ tablebaseWrong rings k length ⌝ }
+{
+    length != layout::tablebase_length(binomials, 8 * rings as usize, k as usize)
+}
+
+// A limit above the highest.
+fn limit_wrong(limit: u32) -> bool
+    ensures { λ r. ⌜ r ≡ limitWrong limit ⌝ }
+{
+    LARGEST_LIMIT < limit
 }
 
 // The first refusal that rings and a board meet, or 0.
@@ -119,6 +180,83 @@ pub fn of_counts(rings: u8, mover: u8, opponent: u8, room: usize) -> u8
         return TARGET_LENGTH;
     }
     0
+}
+
+// The first refusal that K and a tablebase of so many entries meet, or 0.
+fn of_largest(binomials: &[u32; 625], rings: u8, k: u8, above: bool, length: usize) -> u8
+    requires { ⌜ BinomialTable (now binomials) ⌝ }
+    requires { ⌜ rings ≤ 3 ⌝ }
+    ensures { λ r. ⌜ r ≡ refusal (largestPicks rings k above length) ⌝ }
+{
+    if largest_wrong(k, above) {
+        return LARGEST;
+    }
+    if tablebase_wrong(binomials, rings, k, length) {
+        return TABLEBASE_LENGTH;
+    }
+    0
+}
+
+// The first refusal that rings, a board, K and a tablebase of so many entries meet, or 0.
+pub fn of_tablebase(binomials: &[u32; 625], rings: u8, board: &[u8], k: u8, length: usize) -> u8
+    requires { ⌜ BinomialTable (now binomials) ⌝ }
+    ensures { λ r. ⌜ r ≡ refusal (tablebasePicks rings (now (board .entry)) k length) ⌝ }
+{
+    let refusal = of_board(rings, board);
+    if refusal != 0 {
+        return refusal;
+    }
+    of_largest(binomials, rings, k, stones_above(k, board), length)
+}
+
+// The first refusal that K, a limit and a tablebase of so many entries to fill meet, or 0.
+fn of_limit(binomials: &[u32; 625], rings: u8, k: u8, above: bool, limit: u32, length: usize) -> u8
+    requires { ⌜ BinomialTable (now binomials) ⌝ }
+    requires { ⌜ rings ≤ 3 ⌝ }
+    ensures { λ r. ⌜ r ≡ refusal (limitPicks rings k above limit length) ⌝ }
+{
+    let refusal = of_largest(binomials, rings, k, above, length);
+    if refusal != 0 {
+        return refusal;
+    }
+    if limit_wrong(limit) {
+        return LIMIT;
+    }
+    0
+}
+
+// The first refusal that a call to fill a tablebase meets, or 0.
+pub fn of_fill(binomials: &[u32; 625], rings: u8, k: u8, limit: u32, length: usize) -> u8
+    requires { ⌜ BinomialTable (now binomials) ⌝ }
+    ensures { λ r. ⌜ r ≡ refusal (fillPicks rings k limit length) ⌝ }
+{
+    if rings_wrong(rings) {
+        return RINGS;
+    }
+    of_limit(binomials, rings, k, false, limit, length)
+}
+
+// The first refusal that a call to fill a pair of tables meets before the lower tables are read, or 0.
+pub fn of_pair(
+    binomials: &[u32; 625],
+    rings: u8,
+    mover: u8,
+    opponent: u8,
+    k: u8,
+    limit: u32,
+    length: usize,
+) -> u8
+    requires { ⌜ BinomialTable (now binomials) ⌝ }
+    ensures { λ r. ⌜ r ≡ refusal (tablesPicks rings mover opponent k limit length) ⌝ }
+{
+    if rings_wrong(rings) {
+        return RINGS;
+    }
+    if counts_wrong(8 * rings as u32, mover as u32, opponent as u32) {
+        return COUNTS;
+    }
+    let above = count_above(k as u32, mover as u32, opponent as u32);
+    of_limit(binomials, rings, k, above, limit, length)
 }
 
 // The first refusal that a frame meets before its stones are counted, or 0.

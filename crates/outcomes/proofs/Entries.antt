@@ -15,7 +15,8 @@ use Rattle.layout.specs.Layout.{start}
 use Rattle.outcomes.specs.Places.{place, entryAt, successorEntry}
 use Rattle.outcomes.specs.Pair.{Pair, inPair}
 use Rattle.outcomes.specs.Filled.{BothTables, Kept}
-use Rattle.outcomes.proofs.Ranked.{Standing, unrank-in, place-unrank, standing-one}
+use Rattle.outcomes.proofs.Boards.{InTables}
+use Rattle.outcomes.proofs.Ranked.{unrank-in, place-unrank, one-board}
 use Rattle.outcomes.proofs.PairGame.{OnPair, pair-table, in-pair, stands, stands-own}
 
 module _ (rings k : ℕ) (tablebase b : List ℕ) where
@@ -43,10 +44,10 @@ module _ (rings k : ℕ) (tablebase p : List ℕ) (v : ℕ) where
   unfolding entryAt
   written-here h = getD-set-same tablebase (place rings k p) v 0 h
 
-  pub written-elsewhere : (q : List ℕ) → Standing rings k p → Standing rings k q → (q ≡ p → ⊥)
+  pub written-elsewhere : (q : List ℕ) → InTables rings k p → InTables rings k q → (q ≡ p → ⊥)
       → entryAt rings k (set tablebase (place rings k p) v) q ≡ entryAt rings k tablebase q
   unfolding entryAt
-  written-elsewhere q s t ne = getD-set-other tablebase (place rings k p) (place rings k q) v 0 (λ e. ne (standing-one rings k q p t s e))
+  written-elsewhere q s t ne = getD-set-other tablebase (place rings k p) (place rings k q) v 0 (λ e. ne (one-board rings k q p t s e))
 
 -- every other entry is as it was
 pub kept-same : (rings k : ℕ) (T : ℕ → ℕ → Type 0) (tablebase : List ℕ) → Kept rings k T tablebase tablebase
@@ -64,17 +65,17 @@ kept-set rings k T tablebase x y r v t h = record {
 
 -- a board of the tablebase that is in no table of T keeps its entry
 pub kept-standing : (rings k : ℕ) (T : ℕ → ℕ → Type 0) (before after : List ℕ) → Kept rings k T before after
-    → ((x y r : ℕ) → T x y → r < size (8 * rings) x y → Standing rings k (unrank (8 * rings) x y r))
-    → (b : List ℕ) → Standing rings k b → (T (count 1 b) (count 2 b) → ⊥) → entryAt rings k after b ≡ entryAt rings k before b
+    → ((x y r : ℕ) → T x y → r < size (8 * rings) x y → InTables rings k (unrank (8 * rings) x y r))
+    → (b : List ℕ) → InTables rings k b → (T (count 1 b) (count 2 b) → ⊥) → entryAt rings k after b ≡ entryAt rings k before b
 unfolding entryAt
 kept-standing rings k T before after w stand b s out = w .rest (place rings k b) (λ x y r t h e.
     let c = unrank (8 * rings) x y r in
     let i = unrank-in rings x y r h in
-    let q : c ≡ b = standing-one rings k c b (stand x y r t h) s (place-unrank rings k x y r h ∙ e) in
+    let q : c ≡ b = one-board rings k c b (stand x y r t h) s (place-unrank rings k x y r h ∙ e) in
     out (subst (λ (n : ℕ). T n (count 2 b)) (sym (i .mover) ∙ ap (count 1) q) (subst (λ (n : ℕ). T x n) (sym (i .opponent) ∙ ap (count 2) q) t)))
 
 module _ (rings k m o : ℕ) (pair : Pair rings k m o) where
-  pub pair-stands : (x y r : ℕ) → BothTables m o x y → r < size (8 * rings) x y → Standing rings k (unrank (8 * rings) x y r)
+  pub pair-stands : (x y r : ℕ) → BothTables m o x y → r < size (8 * rings) x y → InTables rings k (unrank (8 * rings) x y r)
   pair-stands x y r t h = stands-own rings k m o pair (unrank (8 * rings) x y r) (pair-table t (unrank-in rings x y r h))
 
   -- the lower tables of a pair keep their entries

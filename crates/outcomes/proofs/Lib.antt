@@ -1,3 +1,4 @@
+pub mod Boards
 pub mod Ranked
 pub mod PairGame
 pub mod Entries

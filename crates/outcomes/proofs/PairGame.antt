@@ -10,6 +10,7 @@ use lib.ListN.{length}
 use borrow.Author.Tests.{ltb-true, ltb-false, lt-ltb, le-ltb, eqb-true, eqb-false, eq-eqb, ne-eqb}
 use Rattle.lists.proofs.Tests.{and-left, and-right}
 use Rattle.board.specs.Board.{Values, count}
+use Rattle.layout.proofs.OneToOne.{InRange}
 use Rattle.rules.specs.Ply.{removable, afterPly, removedOf}
 use Rattle.rules.proofs.Listed.{successor-of, removable-takes}
 use Rattle.rules.proofs.Leads.{Leads, MoverLeft, ply-leads}
@@ -18,7 +19,8 @@ use Rattle.outcomes.specs.Places.{entryAt}
 use Rattle.outcomes.specs.Whole.{next}
 use Rattle.outcomes.specs.Pair.{Pair, inPair, given, pairSeed}
 use Rattle.outcomes.specs.Filled.{BothTables}
-use Rattle.outcomes.proofs.Ranked.{InTable, Standing}
+use Rattle.outcomes.proofs.Boards.{InTables}
+use Rattle.outcomes.proofs.Ranked.{InTable, in-tables}
 
 -- the counts of the boards that a ply of the pair leads to: the pair's own, and those of the lower tables
 pub data Counts (m o x y : ℕ) : Type 0 where
@@ -94,16 +96,13 @@ module _ (rings k m o : ℕ) (tablebase b : List ℕ) where
 
 module _ (rings k m o : ℕ) (pair : Pair rings k m o) where
   -- a board of the pair stands in the tablebase, and so does one of a lower table whose mover has three stones
-  pub stands : (b : List ℕ) → OnPair rings m o b → 3 ≤ count 1 b → Standing rings k b
-  stands b p three = go (p .counts)
+  pub stands : (b : List ℕ) → OnPair rings m o b → 3 ≤ count 1 b → InTables rings k b
+  stands b p three = in-tables rings k b (p .values) (p .points) (go (p .counts))
     where
-      all : count 1 b ≤ k → 3 ≤ count 2 b → count 2 b ≤ k → Standing rings k b
-      all c d e = record {
-        reached = record { values = p .values; points = p .points; mover-low = omega arith; mover-high = c; opponent-low = d; opponent-high = e };
-        three = three;
-      }
+      all : count 1 b ≤ k → 3 ≤ count 2 b → count 2 b ≤ k → InRange k (count 1 b) (count 2 b)
+      all c d e = record { mover-low = three; mover-high = c; opponent-low = d; opponent-high = e }
 
-      go : Counts m o (count 1 b) (count 2 b) → Standing rings k b
+      go : Counts m o (count 1 b) (count 2 b) → InRange k (count 1 b) (count 2 b)
       go (own (inl q)) = all (omega (arith, q .0, pair .mover-high)) (omega (arith, q .1, pair .opponent-low)) (omega (arith, q .1, pair .opponent-high))
       go (own (inr q)) = all (omega (arith, q .0, pair .opponent-high)) (omega (arith, q .1, pair .mover-low)) (omega (arith, q .1, pair .mover-high))
       go (lower e f) = all (omega (arith, pair .opponent-high)) (omega (arith, pair .mover-low)) (omega (arith, pair .mover-high))
@@ -116,7 +115,7 @@ module _ (rings k m o : ℕ) (pair : Pair rings k m o) where
       go (inl q) = omega (arith, q .0, pair .mover-low)
       go (inr q) = omega (arith, q .0, pair .opponent-low)
 
-  pub stands-own : (b : List ℕ) → InPair rings m o b → Standing rings k b
+  pub stands-own : (b : List ℕ) → InPair rings m o b → InTables rings k b
   stands-own b i = stands b (on-pair i) (three-own b i)
 
   -- plies of the pair lead to boards of the pair or of its lower tables

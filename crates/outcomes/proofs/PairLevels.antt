@@ -2,9 +2,9 @@
 -- place only. Assumes nothing.
 use mathlib.Core.Path.{_≡_, refl, sym, ap, subst, _∙_}
 use mathlib.Core.Bool.{Bool, true, false, _&&_, true≢false}
-use mathlib.Core.List.{List, List·Memᴰ}
+use mathlib.Core.List.{List}
 use mathlib.Core.Logic.{_⊎_, inl, inr}
-use Prim.Native.Nat.{ℕ, suc, _+_, _*_, _≤_, _<_}
+use Prim.Native.Nat.{ℕ, _*_, _≤_, _<_}
 use native.Mathlib.Decide.{ℕ-discrete}
 use native.Mathlib.Omega.{arith}
 use lib.Dec.{eqb, ltb}
@@ -22,8 +22,9 @@ use Rattle.outcomes.specs.Places.{place, entryAt, successorEntry}
 use Rattle.outcomes.specs.Whole.{next}
 use Rattle.outcomes.specs.Pair.{Pair, inPair, given, pairSeed, LowerTables, LowerValid}
 use Rattle.outcomes.specs.Filled.{BothTables, Kept}
-use Rattle.outcomes.proofs.Ranked.{Standing, own-table, place-at, rank-in, standing-low, standing-one}
-use Rattle.outcomes.proofs.PairGame.{Counts, own, lower, lower-turned, OnPair, InPair, on-pair, in-pair, pair-in, given-draw, given-ends, seed-in, seed-two, seed-given, stands, three-own, stands-own, pair-closed, live-in}
+use Rattle.outcomes.proofs.Boards.{InTables, place-within}
+use Rattle.outcomes.proofs.Ranked.{own-table, place-at, rank-in, one-board}
+use Rattle.outcomes.proofs.PairGame.{Counts, own, lower, lower-turned, OnPair, InPair, in-pair, pair-in, given-draw, given-ends, seed-in, seed-two, seed-given, stands, three-own, stands-own, pair-closed, live-in}
 use Rattle.outcomes.proofs.Entries.{entry-place, entry-two, entry-three, written-here, written-elsewhere, kept-lower}
 
 -- a depth or a draw, and not void
@@ -145,7 +146,7 @@ module _ (rings k m o : ℕ) (pair : Pair rings k m o) (before : List ℕ) (lowe
   Amid n D now = Within (next rings) (λ b. pairSeed rings k m o before b) (OnPair rings m o) (seen now) n D
 
   module _ (n : ℕ) (small : n < voidEntry) (now : List ℕ) (room : length now ≡ tablebaseLength (8 * rings) k) (p : List ℕ) (i : InPair rings m o p) where
-    stand : Standing rings k p
+    stand : InTables rings k p
     stand = stands-own rings k m o pair p i
 
     abbrev written : List ℕ
@@ -161,14 +162,14 @@ module _ (rings k m o : ℕ) (pair : Pair rings k m o) (before : List ℕ) (lowe
             entry-three rings k written q l ∙ written-elsewhere rings k now p n q stand (stands rings k m o pair q s l) ne ∙ sym (entry-three rings k now q l)
 
     here : seen written p ≡ n
-    here = pair-entry written p i ∙ written-here rings k now p n (omega (arith, standing-low rings k p stand))
+    here = pair-entry written p i ∙ written-here rings k now p n (omega (arith, place-within rings k p stand))
 
     -- boards of the pair are told apart by their places
     same : (q : List ℕ) → InPair rings m o q → (q ≡ p) ⊎ (q ≡ p → ⊥)
     same q j = apart (ℕ-discrete (place rings k q) (place rings k p))
       where
         apart : Dec (place rings k q ≡ place rings k p) → (q ≡ p) ⊎ (q ≡ p → ⊥)
-        apart (yes e) = inl (standing-one rings k q p (stands-own rings k m o pair q j) stand e)
+        apart (yes e) = inl (one-board rings k q p (stands-own rings k m o pair q j) stand e)
         apart (no d) = inr (λ e. d (ap (place rings k) e))
 
     module _ (D : List ℕ → Type 0) (w : Amid n D now) where

@@ -1,8 +1,8 @@
 -- Boards of a tablebase and its places: the board of a rank stands at that rank's place in its table, each board of the tablebase at a place of
 -- its own. Assumes nothing.
-use mathlib.Core.Path.{_≡_, refl, sym, ap, _∙_}
+use mathlib.Core.Path.{_≡_, refl, sym, ap, subst, _∙_}
 use mathlib.Core.List.{List}
-use Prim.Native.Nat.{ℕ, _+_, _*_, _≤_, _<_}
+use Prim.Native.Nat.{ℕ, _+_, _*_, _<_}
 use lib.ListN.{length}
 use Rattle.board.specs.Board.{Values, count}
 use Rattle.sizes.specs.Size.{size}
@@ -10,10 +10,10 @@ use Rattle.sizes.proofs.Multinomials.{stones-few}
 use Rattle.ranking.specs.Rank.{rank}
 use Rattle.ranking.specs.Unrank.{unrank}
 use Rattle.ranking.proofs.Inverse.{rank-unrank, unrank-rank, rank-one, rank-low}
-use Rattle.layout.specs.Layout.{start, tablebaseLength}
-use Rattle.layout.proofs.OneToOne.{IsTable, PlaceOf, place-low, place-one}
-use Rattle.rules.proofs.Leads.{Reached}
+use Rattle.layout.specs.Layout.{start}
+use Rattle.layout.proofs.OneToOne.{InRange, PlaceOf, place-one}
 use Rattle.outcomes.specs.Places.{place}
+use Rattle.outcomes.proofs.Boards.{InTables, place-of}
 
 -- a board of table (x, y)
 pub record InTable (rings x y : ℕ) (b : List ℕ) : Type 0 where
@@ -42,36 +42,27 @@ module _ (rings x y : ℕ) (b : List ℕ) (w : InTable rings x y b) where
   pub unrank-of : unrank (8 * rings) x y (rank b) ≡ b
   unrank-of = rw (w .points, w .mover, w .opponent) at (unrank-rank b (w .values))
 
--- a board of a tablebase of largest count k
-pub record Standing (rings k : ℕ) (b : List ℕ) : Type 0 where
-  pub reached : Reached rings k b
-  pub three : 3 ≤ count 1 b
+-- a board's counts make a table where they are in range
+pub in-tables : (rings k : ℕ) (b : List ℕ) → Values b → length b ≡ 8 * rings → InRange k (count 1 b) (count 2 b) → InTables rings k b
+in-tables rings k b v e r = record {
+  points = e;
+  values = v;
+  is-table = record {
+    mover-low = r .mover-low;
+    mover-high = r .mover-high;
+    opponent-low = r .opponent-low;
+    opponent-high = r .opponent-high;
+    stones-fit = stones-few (8 * rings) (count 1 b) (count 2 b) (rank b)
+        (rank-in rings (count 1 b) (count 2 b) b record { values = v; points = e; mover = refl; opponent = refl });
+  };
+}
 
 module _ (rings k : ℕ) where
-  pub own-table : (b : List ℕ) → Standing rings k b → InTable rings (count 1 b) (count 2 b) b
-  own-table b s = record { values = s .reached .values; points = s .reached .points; mover = refl; opponent = refl }
-
-  pub table-of : (b : List ℕ) → Standing rings k b → IsTable (8 * rings) k (count 1 b) (count 2 b)
-  table-of b s = record {
-    mover-low = s .three;
-    mover-high = s .reached .mover-high;
-    opponent-low = s .reached .opponent-low;
-    opponent-high = s .reached .opponent-high;
-    stones-fit = stones-few (8 * rings) (count 1 b) (count 2 b) (rank b) (rank-in rings (count 1 b) (count 2 b) b (own-table b s));
-  }
-
-  place-of : (b : List ℕ) (s : Standing rings k b) {x : ℕ} → place rings k b ≡ x → PlaceOf (8 * rings) k (count 1 b) (count 2 b) (rank b) x
-  place-of b s e = record {
-    is-table = table-of b s;
-    rank-low = rank-in rings (count 1 b) (count 2 b) b (own-table b s);
-    at = sym (place-at rings k (count 1 b) (count 2 b) b (own-table b s)) ∙ e;
-  }
-
-  pub standing-low : (b : List ℕ) → Standing rings k b → place rings k b < tablebaseLength (8 * rings) k
-  standing-low b s = place-low (8 * rings) k (place-of b s refl)
+  pub own-table : (b : List ℕ) → InTables rings k b → InTable rings (count 1 b) (count 2 b) b
+  own-table b s = record { values = s .values; points = s .points; mover = refl; opponent = refl }
 
   -- two boards of a tablebase at one place are one board
-  pub standing-one : (b c : List ℕ) → Standing rings k b → Standing rings k c → place rings k b ≡ place rings k c → b ≡ c
-  standing-one b c s t e =
-      let q = place-one (8 * rings) k (place-of b s e) (place-of c t refl) in
-      rank-one b c (s .reached .values) (t .reached .values) (s .reached .points ∙ sym (t .reached .points)) (q .0) (q .1) (q .2)
+  pub one-board : (b c : List ℕ) → InTables rings k b → InTables rings k c → place rings k b ≡ place rings k c → b ≡ c
+  one-board b c s t e =
+      let q = place-one (8 * rings) k (place-of rings k b s) (subst (PlaceOf (8 * rings) k (count 1 c) (count 2 c) (rank c)) (sym e) (place-of rings k c t)) in
+      rank-one b c (s .values) (t .values) (s .points ∙ sym (t .points)) (q .0) (q .1) (q .2)

@@ -1,19 +1,18 @@
 -- A whole fill leaves one tablebase: two that hold the entries of every position are equal, and no tablebase that is filled has a forced end beyond
 -- the limit. Assumes nothing.
 use mathlib.Core.Path.{_≡_, refl, sym, ap, subst, _∙_}
-use mathlib.Core.Bool.{true, false, true≢false}
+use mathlib.Core.Bool.{true≢false}
 use mathlib.Core.List.{List, [], _∷_}
-use Prim.Native.Nat.{ℕ, zero, suc, _+_, _*_, _<_}
+use Prim.Native.Nat.{ℕ, suc, _*_, _<_}
 use native.Mathlib.Omega.{arith}
 use lib.ListN.{length, getD}
-use Rattle.sizes.specs.Size.{size}
 use Rattle.ranking.specs.Unrank.{unrank}
-use Rattle.layout.specs.Layout.{start, tablebaseLength}
-use Rattle.layout.proofs.OneToOne.{PlaceOf, Placed, place-found, table-listed}
+use Rattle.layout.specs.Layout.{tablebaseLength}
+use Rattle.layout.proofs.OneToOne.{Placed, place-found, table-listed}
 use Rattle.game.specs.Game.{Seed}
 use Rattle.game.proofs.Depths.{entry-unique}
-use Rattle.outcomes.specs.Whole.{next, wholeSeed}
-use Rattle.outcomes.specs.Filled.{AllTables, Kept, Filled, TooDeep}
+use Rattle.outcomes.specs.Whole.{next}
+use Rattle.outcomes.specs.Filled.{AllTables, Filled, TooDeep}
 
 -- lists of one length that agree at each place are equal
 same-entries : (xs ys : List ℕ) → length xs ≡ length ys → ((i : ℕ) → i < length xs → getD xs i 0 ≡ getD ys i 0) → xs ≡ ys

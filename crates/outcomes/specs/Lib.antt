@@ -1,4 +1,4 @@
-pub mod Places
 pub mod Whole
+pub mod Places
 pub mod Pair
 pub mod Filled

@@ -1,19 +1,15 @@
 -- `morris::rank` meets its contract: the first refusal of the board's picks, or the rank of its position. Assumes nothing.
-use mathlib.Core.Path.{_≡_, sym, ap, subst, _∙_}
+use mathlib.Core.Path.{sym, ap, _∙_}
 use mathlib.Core.List.{List, [], _∷_}
 use Prim.Native.Nat.{ℕ}
-use native.Mathlib.Omega.{arith}
-use lib.ListN.{length}
 use borrow.Author.Needs.{needs}
-use Rattle.board.specs.Board.{boardOf, OnBoard}
-use Rattle.board.specs.declared.position.Position.{Position}
-use Rattle.board.proofs.Sides.{board-position, position-on}
 use Rattle.ranking.specs.Rank.{rank as Rank·rank}
 use Rattle.morris.specs.Refusals.{refusal}
 use Rattle.morris.specs.Conditions.{boardPicks}
 use Rattle.morris.specs.Answers.{accepted}
 use Rattle.morris.specs.RankCall.{rankCall}
 use Rattle.morris.proofs.Conditions.{Accepted, accepted-board}
+use Rattle.morris.proofs.Positions.{few-points, on-board, rank-back}
 use Rattle.morris.proofs.Answering.{answer-refused, answer-accepted}
 use Rattle.morris.proofs.rank.Statement.{statement}
 use Rattle.morris.proofs.rank.Tie as tie
@@ -33,17 +29,13 @@ binomial-table-requires : tie.Need-binomial-table-requires
 binomial-table-requires c κs = search needs
 
 position-of-requires : tie.Need-position-of-requires
-position-of-requires c κs = let w = board-accepted (c .before) in omega (arith, w .points, w .rings-high)
+position-of-requires c κs = few-points _ _ (board-accepted (c .before))
 
 rank-requires : tie.Need-rank-requires
 rank-requires c κs =
     let x = c .before .before .before in
     let b : List ℕ = x .before .before .before .args .board .now in
-    let w = board-accepted x in
-    let e = c .before .position-of .ensures in (
-      c .before .before .binomial-table .ensures,
-      (omega (arith, w .points, w .rings-high), subst (λ (p : Position). OnBoard (length b) p) (sym e) (position-on b)),
-    )
+    (c .before .before .binomial-table .ensures, (few-points _ b (board-accepted x), on-board b _ (c .before .position-of .ensures)))
 
 returns-2 : tie.Need-returns-2
 unfolding rankCall
@@ -51,11 +43,8 @@ returns-2 c =
     let x = c .before .before .before .before in
     let s = x .before .before .before in
     let b : List ℕ = s .args .board .now in
-    let w = board-accepted x in
-    let e : c .rank .result ≡ Rank·rank b =
-    c .rank .ensures ∙ ap (λ (p : Position). Rank·rank (boardOf (length b) p)) (c .before .before .position-of .ensures)
-    ∙ ap Rank·rank (board-position b (w .values)) in
-    ap (λ (r : ℕ). accepted (r ∷ [])) e
+    let e = rank-back b _ (c .before .before .position-of .ensures) (board-accepted x .values) in
+    ap (λ (r : ℕ). accepted (r ∷ [])) (c .rank .ensures ∙ e)
     ∙ answer-accepted (refusal (boardPicks (s .args .rings) b)) (Rank·rank b ∷ []) (sym (x .if1 .left) ∙ x .before .of-board .ensures)
 
 pub rank-spec : {M : Type 1} → statement M

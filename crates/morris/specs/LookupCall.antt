@@ -1,0 +1,18 @@
+-- The call `lookup` (document 01: "rings and a board, for .. its entry in a shelf"). Assumes nothing.
+use mathlib.Core.List.{List, [], _∷_}
+use Prim.Native.Nat.{ℕ}
+use Rattle.outcomes.specs.Places.{entryAt}
+use Rattle.morris.specs.Refusals.{refusal}
+use Rattle.morris.specs.Conditions.{lookupPicks}
+use Rattle.morris.specs.Answers.{Answer, accepted, refused, answer}
+use Rattle.morris.specs.declared.Looked.{Looked}
+use Rattle.morris.specs.declared.Looked.the-variants.{Entry, Refused}
+
+-- document 01's number and value of each case
+abbrev pub looked : Looked → Answer
+looked (Entry e) = accepted (e ∷ [])
+looked (Refused n) = refused n
+
+-- 1, 2, 3, 4, 11, 6, 12; else the entry
+unfoldable pub lookupCall : ℕ → List ℕ → ℕ → List ℕ → Answer
+lookupCall rings b k tablebase = answer (refusal (lookupPicks rings b k tablebase)) (entryAt rings k tablebase b ∷ [])
