@@ -3,3 +3,4 @@ pub mod Sweeping
 pub mod Parts
 pub mod States
 pub mod NextLevel
+pub mod AtRank

@@ -1,9 +1,9 @@
 -- The step to the next level: no entry of the pair or of its lower tables lies between the level and the least depth that was found. Assumes nothing.
-use mathlib.Core.Path.{_≡_, refl, sym, ap, subst, _∙_}
+use mathlib.Core.Path.{_≡_, refl, sym, subst, _∙_}
 use mathlib.Core.Bool.{Bool, true, false}
 use mathlib.Core.List.{List}
 use mathlib.Core.Logic.{_⊎_, inl, inr}
-use Prim.Native.Nat.{ℕ, zero, suc, _+_, _-_, _*_, _≤_, _<_, min}
+use Prim.Native.Nat.{ℕ, suc, _-_, _*_, _≤_, _<_, min}
 use native.Mathlib.Omega.{arith}
 use lib.Dec.{eqb, ltb}
 use lib.ListN.{length, getD}
@@ -11,8 +11,8 @@ use borrow.Author.Tests.{eqb-true, eqb-false, ltb-true, ltb-false, ne-eqb}
 use Rattle.board.specs.Board.{count}
 use Rattle.layout.specs.Layout.{start, end, tablebaseLength}
 use Rattle.layout.proofs.OneToOne.{InRange, end-is, end-within}
-use Rattle.game.specs.Game.{drawEntry, voidEntry, Entry}
-use Rattle.game.proofs.Levels.{Exact, skip, stop}
+use Rattle.game.specs.Game.{voidEntry, Entry}
+use Rattle.game.proofs.Levels.{skip, stop}
 use Rattle.outcomes.specs.Places.{place, entryAt, successorEntry}
 use Rattle.outcomes.specs.Whole.{next}
 use Rattle.outcomes.specs.Pair.{Pair, pairSeed, LowerValid}
@@ -204,9 +204,9 @@ module _ (rings k m o : ℕ) (a b : Table) (before : List ℕ) (s : Setting (len
             let q : then ≡ suc (pairLeast a b level after) = e ∙ rw (f, levelAfter) in
             let r = least-range rings k m o a b after here level (omega arith) in
             let x = skip (next rings) (λ c. pairSeed rings k m o before c) (OnPair rings m o) (pair-ground rings k m o (s .pair) before valid) level (omega arith)
-                (λ c. successorEntry rings k after c) exact (pairLeast a b level after) (r .0) (λ c i l u. nothing (omega arith) c i l u (omega (arith, r .1))) in
+            (λ c. successorEntry rings k after c) exact (pairLeast a b level after) (r .0) (λ c i l u. nothing (omega arith) c i l u (omega (arith, r .1))) in
             let w : voidEntry < suc (pairLeast a b level after) → (c : List ℕ) → OnPair rings m o c
-                → Entry (next rings) (λ y. pairSeed rings k m o before y) c (successorEntry rings k after c) =
-                λ v. stop (next rings) (λ c. pairSeed rings k m o before c) (OnPair rings m o) (pair-ground rings k m o (s .pair) before valid) level (omega arith)
-                (λ c. successorEntry rings k after c) exact (λ c i l u. nothing (omega arith) c i l (omega arith) u) in
+            → Entry (next rings) (λ y. pairSeed rings k m o before y) c (successorEntry rings k after c) =
+            λ v. stop (next rings) (λ c. pairSeed rings k m o before c) (OnPair rings m o) (pair-ground rings k m o (s .pair) before valid) level (omega arith)
+            (λ c. successorEntry rings k after c) exact (λ c i l u. nothing (omega arith) c i l (omega arith) u) in
             (omega (arith, r .0), subst (λ (v : ℕ). State rings k m o a b before s valid limit v after) (sym q) (state (suc (pairLeast a b level after)) x w))

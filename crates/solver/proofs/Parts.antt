@@ -1,5 +1,5 @@
 -- The parts of a pair's tables: where its boards stand, that they lie within the tablebase, and both filled with one value. Assumes nothing.
-use mathlib.Core.Path.{_≡_, refl, sym, ap, ap₂, subst, _∙_}
+use mathlib.Core.Path.{_≡_, refl, sym, ap₂, _∙_}
 use mathlib.Core.List.{List}
 use mathlib.Core.Logic.{_⊎_, inl, inr}
 use Prim.Native.Nat.{ℕ, _+_, _-_, _*_, _≤_, _<_}
@@ -7,7 +7,6 @@ use native.Mathlib.Omega.{arith}
 use lib.ListN.{length, getD}
 use Rattle.board.specs.Board.{count}
 use Rattle.sizes.specs.Size.{size}
-use Rattle.ranking.specs.Rank.{rank}
 use Rattle.layout.specs.Layout.{start, end, tablebaseLength}
 use Rattle.layout.proofs.OneToOne.{InRange, end-is, end-within}
 use Rattle.outcomes.specs.Places.{place, entryAt}
@@ -18,9 +17,8 @@ use Rattle.outcomes.proofs.PairGame.{InPair}
 use Rattle.outcomes.proofs.Entries.{entry-place, kept-then}
 use Rattle.parts.specs.Parts.{filledPart}
 use Rattle.parts.proofs.Filling.{filled-length, filled-in, filled-cases}
-use Rattle.probing.specs.Probes.{Reads}
 use Rattle.solver.specs.declared.tables.Table.{Table}
-use Rattle.solver.specs.Tables.{lowerStart, Located}
+use Rattle.solver.specs.Tables.{Located}
 use Rattle.solver.specs.Levels.{Fits, pairFilled}
 use Rattle.solver.specs.Solve.{Setting}
 use Rattle.solver.proofs.Probed.{lower-starts}

@@ -1,20 +1,20 @@
 -- What is read of a successor is its entry in the tablebase: the tables are where the layout puts them. Assumes nothing.
-use mathlib.Core.Path.{_≡_, refl, sym, ap, ap₂, subst, _∙_}
+use mathlib.Core.Path.{_≡_, refl, sym, ap, subst, _∙_}
 use mathlib.Core.Bool.{Bool, true, false}
 use mathlib.Core.List.{List, List·Memᴰ}
-use mathlib.Core.Logic.{_⊎_, inl, inr}
-use Prim.Native.Nat.{ℕ, suc, _+_, _-_, _*_, _≤_, _<_}
+use mathlib.Core.Logic.{inl, inr}
+use Prim.Native.Nat.{ℕ, suc, _+_, _-_, _*_, _≤_}
 use native.Mathlib.Omega.{arith}
 use lib.Dec.{ltb}
 use lib.ListN.{getD}
-use borrow.Author.Tests.{ltb-true, ltb-false, eq-eqb, ne-eqb}
+use borrow.Author.Tests.{ltb-true, ltb-false, ne-eqb}
 use Rattle.board.specs.Board.{count}
 use Rattle.ranking.specs.Rank.{rank}
 use Rattle.layout.specs.Layout.{start}
 use Rattle.rules.specs.Ply.{removable, afterPly, removedOf}
 use Rattle.rules.proofs.Listed.{successor-of, removable-takes}
 use Rattle.rules.proofs.Leads.{Leads, MoverLeft, ply-leads}
-use Rattle.outcomes.specs.Places.{place, entryAt, successorEntry}
+use Rattle.outcomes.specs.Places.{place, successorEntry}
 use Rattle.outcomes.specs.Whole.{next}
 use Rattle.outcomes.proofs.Ranked.{InTable, place-at}
 use Rattle.outcomes.proofs.Entries.{entry-place, entry-two, entry-three}

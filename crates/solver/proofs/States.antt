@@ -1,43 +1,35 @@
 -- The levels of a pair's solver: what holds before each level, that a sweep and the step to the next level keep it, and what the solver answers in
 -- the end. Assumes nothing.
-use mathlib.Core.Path.{_≡_, refl, sym, ap, ap₂, subst, _∙_}
-use mathlib.Core.Bool.{Bool, true, false, _&&_, true≢false}
+use mathlib.Core.Path.{_≡_, refl, sym, ap₂, subst, _∙_}
+use mathlib.Core.Bool.{Bool, true, false}
 use mathlib.Core.List.{List}
 use mathlib.Core.Logic.{_⊎_, inl, inr}
-use Prim.Native.Nat.{ℕ, zero, suc, _+_, _-_, _*_, _≤_, _<_, min}
+use Prim.Native.Nat.{ℕ, suc, _*_, _≤_, _<_}
 use native.Mathlib.Omega.{arith}
-use lib.Dec.{eqb, ltb}
-use lib.ListN.{length, getD}
-use borrow.Author.Tests.{eqb-true, eqb-false, ltb-true, ltb-false, eq-eqb}
-use Rattle.lists.proofs.Tests.{and-left, and-right}
+use lib.Dec.{eqb}
+use lib.ListN.{length}
+use borrow.Author.Tests.{eqb-true}
 use Rattle.board.specs.Board.{count}
 use Rattle.sizes.specs.Size.{size}
 use Rattle.ranking.specs.Rank.{rank}
 use Rattle.ranking.specs.Unrank.{unrank}
 use Rattle.layout.specs.Layout.{start, end, tablebaseLength}
-use Rattle.layout.proofs.OneToOne.{InRange, end-is, end-within}
-use Rattle.game.specs.Game.{live, drawEntry, voidEntry, ended, Depth, Entry}
-use Rattle.game.specs.Judgement.{decided}
-use Rattle.game.proofs.Least.{mono-le}
-use Rattle.game.proofs.Within.{ended-mono}
+use Rattle.game.specs.Game.{live, drawEntry, voidEntry, Depth, Entry}
 use Rattle.game.proofs.Depths.{NotBefore, before-or-not}
-use Rattle.game.proofs.Levels.{Exact, exact-start, level-start, level-done, beyond, settled, skip, stop}
-use Rattle.outcomes.specs.Places.{place, entryAt, successorEntry}
+use Rattle.game.proofs.Levels.{Exact, exact-start, level-start, level-done}
+use Rattle.outcomes.specs.Places.{entryAt, successorEntry}
 use Rattle.outcomes.specs.Whole.{next}
-use Rattle.outcomes.specs.Pair.{Pair, pairSeed, LowerValid}
-use Rattle.outcomes.specs.Filled.{BothTables, Kept, Filled, TooDeep}
-use Rattle.outcomes.proofs.Ranked.{InTable, unrank-in, unrank-of, place-at, rank-in}
-use Rattle.outcomes.proofs.PairGame.{Counts, own, lower, lower-turned, OnPair, InPair, on-pair, pair-table}
-use Rattle.outcomes.proofs.Entries.{entry-place, entry-two, entry-three, entry-unrank, kept-then}
-use Rattle.outcomes.proofs.PairLevels.{Amid, seen, pair-live, live-pair, pair-ground, pair-seeded, pair-entry}
-use Rattle.parts.specs.Parts.{partOf, leastFrom}
-use Rattle.parts.proofs.LeastDepth.{least-cases, part-below}
+use Rattle.outcomes.specs.Pair.{pairSeed, LowerValid}
+use Rattle.outcomes.specs.Filled.{BothTables, Kept}
+use Rattle.outcomes.proofs.Ranked.{InTable, unrank-of, rank-in}
+use Rattle.outcomes.proofs.PairGame.{own, OnPair, InPair, on-pair}
+use Rattle.outcomes.proofs.Entries.{kept-then}
+use Rattle.outcomes.proofs.PairLevels.{Amid, pair-live, live-pair, pair-ground, pair-seeded, pair-entry}
 use Rattle.solver.specs.declared.tables.Table.{Table}
-use Rattle.solver.specs.Tables.{lowerStart, lowerEnd, Located}
-use Rattle.solver.specs.Levels.{swept, openDecided, Found, pairSwept, pairFilled, pairLeast, levelAfter}
-use Rattle.solver.specs.Solve.{Setting, PairFill}
-use Rattle.solver.proofs.Sweeping.{Side, decided-is, swept-kept, Done, earlier, ranked-below, swept-amid}
-use Rattle.solver.proofs.Parts.{first-side, second-side, in-range, part-room, part-place, pair-kept, pair-filled}
+use Rattle.solver.specs.Levels.{swept, pairSwept, pairFilled}
+use Rattle.solver.specs.Solve.{Setting}
+use Rattle.solver.proofs.Sweeping.{swept-kept, Done, earlier, ranked-below, swept-amid}
+use Rattle.solver.proofs.Parts.{first-side, second-side, pair-kept, pair-filled}
 
 module _ (rings k m o : ℕ) (a b : Table) (before : List ℕ) (s : Setting (length before) rings k m o a b) (valid : LowerValid rings k m o before) where
   -- every position of the pair has its depth if that is below the level, and is open otherwise
@@ -174,8 +166,7 @@ module _ (rings k m o : ℕ) (a b : Table) (before : List ℕ) (s : Setting (len
             (kept-then rings k (BothTables m o) before now once (st .kept) once-kept, ended-level DoneOnce once once-amid (all-once q))
         go false f =
             let e : after ≡ twice = is ∙ sizes ∙ rw f in
-            subst (λ (l : List ℕ). Kept rings k (BothTables m o) before l × ExactBelow (suc level) l) (sym e)
-            (
+            subst (λ (l : List ℕ). Kept rings k (BothTables m o) before l × ExactBelow (suc level) l) (sym e) (
               kept-then rings k (BothTables m o) before once twice (kept-then rings k (BothTables m o) before now once (st .kept) once-kept) twice-kept,
               ended-level DoneTwice twice twice-amid all-twice,
             )

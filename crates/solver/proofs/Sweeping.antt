@@ -1,6 +1,6 @@
 -- What a sweep of a table at level n does in the pair's game: each position of the table has been visited, the others are as they were.
 -- Assumes nothing.
-use mathlib.Core.Path.{_≡_, refl, sym, ap, ap₂, subst, _∙_}
+use mathlib.Core.Path.{_≡_, sym, ap, ap₂, subst, _∙_}
 use mathlib.Core.Bool.{Bool, true, false, _&&_}
 use mathlib.Core.List.{List, List·Memᴰ}
 use mathlib.Core.Logic.{_⊎_, inl, inr}
@@ -9,7 +9,7 @@ use native.Mathlib.Decide.{ℕ-discrete}
 use native.Mathlib.Omega.{arith}
 use native.Mathlib.Nat.{not-suc-le-zero}
 use lib.Dec.{eqb}
-use lib.ListN.{length, getD, set, length-set}
+use lib.ListN.{length, getD, set}
 use Rattle.sizes.specs.Size.{size}
 use Rattle.ranking.specs.Unrank.{unrank}
 use Rattle.layout.specs.Layout.{start, tablebaseLength}
@@ -20,12 +20,12 @@ use Rattle.outcomes.specs.Places.{place, entryAt, successorEntry}
 use Rattle.outcomes.specs.Whole.{next}
 use Rattle.outcomes.specs.Pair.{Pair, LowerValid}
 use Rattle.outcomes.specs.Filled.{BothTables, Kept}
-use Rattle.outcomes.proofs.Ranked.{InTable, unrank-in, place-unrank}
+use Rattle.outcomes.proofs.Ranked.{unrank-in, place-unrank}
 use Rattle.outcomes.proofs.PairGame.{InPair, pair-table}
 use Rattle.outcomes.proofs.Entries.{entry-unrank, kept-same, kept-set, kept-then}
-use Rattle.outcomes.proofs.PairLevels.{Amid, seen, visited}
+use Rattle.outcomes.proofs.PairLevels.{Amid, visited}
 use Rattle.solver.specs.declared.tables.Table.{Table}
-use Rattle.solver.specs.Tables.{lowerStart, Located}
+use Rattle.solver.specs.Tables.{Located}
 use Rattle.solver.specs.Levels.{isOpen, ranked, judged, sweptPlace, swept, openDecided}
 use Rattle.solver.proofs.Probed.{probed}
 

@@ -1,2 +1,3 @@
 // The solver: a pair of tables level by level, and a whole tablebase pair by pair, in place.
+mod levels;
 mod tables;

@@ -1,13 +1,10 @@
 -- `solver::tables::lower_part` meets its contract. Assumes nothing.
-use mathlib.Core.Path.{_≡_, refl, _∙_}
+use mathlib.Core.Path.{_∙_}
 use borrow.Author.Tests.{eq-eqb, ne-eqb}
 use Rattle.solver.specs.Tables.{lowerStart, lowerEnd}
 use borrow.Author.Needs.{needs}
 use Rattle.solver.proofs.tables.lower_part.Statement.{statement}
 use Rattle.solver.proofs.tables.lower_part.Tie as tie
-use Rattle.solver.proofs.tables.lower_part.Reads as reads
-use Rattle.solver.proofs.tables.lower_part.Lts as lts
-use Rattle.solver.proofs.tables.part_of.Reads as part-of-reads
 
 returns : tie.Need-returns
 unfolding lowerStart lowerEnd
