@@ -56,7 +56,7 @@ fn lower(least: u16, e: u16, low: u16) -> u16
 }
 
 // The least depth from `low` on among the entries of a part, void where there is none.
-pub fn least_from(part: &[u16], low: u16) -> u16
+fn least_from(part: &[u16], low: u16) -> u16
     ensures { λ r. ⌜ r ≡ leastFrom low (now (part .entry)) ⌝ }
 {
     let mut least = VOID;
@@ -69,7 +69,7 @@ pub fn least_from(part: &[u16], low: u16) -> u16
 }
 
 // Whether an entry of a part is void.
-pub fn has_void(part: &[u16]) -> bool
+fn has_void(part: &[u16]) -> bool
     ensures { λ r. ⌜ r ≡ any (λ e. eqb e voidEntry) (now (part .entry)) ⌝ }
 {
     let mut found = false;
@@ -79,4 +79,20 @@ pub fn has_void(part: &[u16]) -> bool
         found = (part[i] == VOID) | found;
     }
     found
+}
+
+// The least depth from `low` on in a table.
+pub fn least_depth(tablebase: &[u16], start: usize, end: usize, low: u16) -> u16
+    requires { ⌜ (start ≤ end) × (end ≤ length (now tablebase)) ⌝ }
+    ensures { λ r. ⌜ r ≡ leastFrom low (partOf start end (now (tablebase .entry))) ⌝ }
+{
+    least_from(&tablebase[start..end], low)
+}
+
+// Whether an entry of a table is void.
+pub fn void_within(tablebase: &[u16], start: usize, end: usize) -> bool
+    requires { ⌜ (start ≤ end) × (end ≤ length (now tablebase)) ⌝ }
+    ensures { λ r. ⌜ r ≡ any (λ e. eqb e voidEntry) (partOf start end (now (tablebase .entry))) ⌝ }
+{
+    has_void(&tablebase[start..end])
 }

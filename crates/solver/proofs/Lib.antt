@@ -4,3 +4,5 @@ pub mod Parts
 pub mod States
 pub mod NextLevel
 pub mod AtRank
+pub mod PairSteps
+pub mod Answered

@@ -25,10 +25,10 @@ use Rattle.parts.specs.Parts.{partOf, leastFrom}
 use Rattle.parts.proofs.LeastDepth.{least-cases, part-below}
 use Rattle.solver.specs.declared.tables.Table.{Table}
 use Rattle.solver.specs.Tables.{lowerStart, lowerEnd, Located}
-use Rattle.solver.specs.Levels.{pairSwept, pairLeast, levelAfter}
+use Rattle.solver.specs.Levels.{InRoom, pairSwept, pairLeast, levelAfter}
 use Rattle.solver.specs.Solve.{Setting}
 use Rattle.solver.proofs.Probed.{lower-starts}
-use Rattle.solver.proofs.Parts.{in-range, part-room, part-place}
+use Rattle.solver.proofs.Parts.{in-range, turned-pair, part-end, part-room, part-place}
 use Rattle.solver.proofs.States.{ExactBelow, State, exact-most, swept-level}
 
 pub lower-ends : (points k m o : ℕ) → 4 ≤ o → lowerEnd points k m o ≡ end points k (o - 1) m
@@ -72,15 +72,6 @@ lower-place rings k x y t l b three e w =
     (omega (arith, q, u), omega (arith, q, v, end-is (8 * rings) k (y - 1) x, rank-in rings (y - 1) x b i))
 
 module _ (rings k m o : ℕ) (a b : Table) (now : List ℕ) (s : Setting (length now) rings k m o a b) (level : ℕ) where
-  turned : Pair rings k o m
-  turned = record {
-    small = s .pair .small;
-    mover-low = s .pair .opponent-low;
-    mover-high = s .pair .opponent-high;
-    opponent-low = s .pair .mover-low;
-    opponent-high = s .pair .mover-high;
-  }
-
   abbrev ones : ℕ
   ones = leastFrom level (partOf (a .own .start) (a .own .end) now)
 
@@ -142,7 +133,16 @@ module _ (rings k m o : ℕ) (a b : Table) (now : List ℕ) (s : Setting (length
       go (lower-turned e f) =
           let p = lower-place rings k o m b (s .second) c three e (whose (count 1 c) o refl f) in
           found fours (omega (arith, least-is)) (part-below level (b .lower .start) (b .lower .end) now
-          (lower-room rings k o m b (s .second) turned (length now) (s .room) .1) (place rings k c) (p .0) (p .1) g)
+          (lower-room rings k o m b (s .second) (turned-pair (s .pair)) (length now) (s .room) .1) (place rings k c) (p .0) (p .1) g)
+
+-- all four parts lie within the tablebase
+pub in-room : {n rings k m o : ℕ} {a b : Table} → Setting n rings k m o a b → InRoom n a b
+in-room {n} {rings} {k} {m} {o} {a} {b} s = record {
+  first = (omega (arith, part-end rings k m o a (s .first)), part-room rings k m o a (s .first) (in-range {rings = rings} (s .pair) (inl (refl, refl))) n (s .room));
+  second = (omega (arith, part-end rings k o m b (s .second)), part-room rings k o m b (s .second) (in-range {rings = rings} (s .pair) (inr (refl, refl))) n (s .room));
+  first-lower = lower-room rings k m o a (s .first) (s .pair) n (s .room);
+  second-lower = lower-room rings k o m b (s .second) (turned-pair (s .pair)) n (s .room);
+}
 
 -- the setting of a tablebase of the same length
 pub setting-now : {n rings k m o : ℕ} {a b : Table} → (l : ℕ) → l ≡ n → Setting n rings k m o a b → Setting l rings k m o a b

@@ -39,6 +39,15 @@ in-range p (inr q) = record {
   opponent-high = omega (arith, q .1, p .mover-high);
 }
 
+pub turned-pair : {rings k m o : ℕ} → Pair rings k m o → Pair rings k o m
+turned-pair p = record {
+  small = p .small;
+  mover-low = p .opponent-low;
+  mover-high = p .opponent-high;
+  opponent-low = p .mover-low;
+  opponent-high = p .mover-high;
+}
+
 -- a located table: its part
 module _ (rings k x y : ℕ) (t : Table) (l : Located (8 * rings) k x y t) where
   pub part-end : t .own .end ≡ t .own .start + size (8 * rings) x y
@@ -102,20 +111,11 @@ module _ {n rings k m o : ℕ} {a b : Table} (s : Setting n rings k m o a b) whe
   pub second-side : Side rings k m o o m b (a .own .start)
   second-side = record { both = inr (refl, refl); low = s .pair .mover-low; located = s .second; same-is = s .first .start-is }
 
-  turned : Pair rings k o m
-  turned = record {
-    small = s .pair .small;
-    mover-low = s .pair .opponent-low;
-    mover-high = s .pair .opponent-high;
-    opponent-low = s .pair .mover-low;
-    opponent-high = s .pair .mover-high;
-  }
-
   pub first-fits : Fits n rings a (b .own .start)
   first-fits = part-fits rings k m o a (s .first) (s .pair) (b .own .start) n (s .second .start-is) (s .room)
 
   pub second-fits : Fits n rings b (a .own .start)
-  second-fits = part-fits rings k o m b (s .second) turned (a .own .start) n (s .first .start-is) (s .room)
+  second-fits = part-fits rings k o m b (s .second) (turned-pair (s .pair)) (a .own .start) n (s .first .start-is) (s .room)
 
 -- both tables filled with one value
 module _ (rings k m o : ℕ) (a b : Table) (now : List ℕ) (s : Setting (length now) rings k m o a b) (v : ℕ) where

@@ -2,6 +2,7 @@
 use mathlib.Core.Path.{_≡_}
 use mathlib.Core.Bool.{Bool, true, false, _&&_}
 use mathlib.Core.List.{List}
+use mathlib.Core.Logic.{_⊎_}
 use Prim.Native.Nat.{ℕ, zero, suc, _+_, _*_, _≤_, _<_, min}
 use lib.Dec.{eqb}
 use lib.ListN.{getD, set}
@@ -12,6 +13,7 @@ use Rattle.game.specs.Judgement.{hit, decided}
 use Rattle.outcomes.specs.Whole.{next}
 use Rattle.probing.specs.Probes.{probe, Reads}
 use Rattle.parts.specs.Parts.{partOf, filledPart, leastFrom}
+use Rattle.solver.specs.declared.tables.Part.{Part}
 use Rattle.solver.specs.declared.tables.Table.{Table}
 
 -- table t, its lower table and the table that starts at `same` lie within a tablebase of a length
@@ -61,6 +63,25 @@ pairSwept rings a b level tablebase = elim (eqb (a .mover) (a .opponent)) [
   | false ↦ swept rings b (a .own .start) level
       (swept rings a (b .own .start) level tablebase (size (8 * rings) (a .mover) (a .opponent))) (size (8 * rings) (b .mover) (b .opponent))
 ]
+
+-- whether some open position of a pair is decided by its successors
+abbrev pub PairFound : ℕ → Table → Table → List ℕ → Bool → Type 0
+PairFound rings a b tablebase true =
+    Found (openDecided rings a (b .own .start) tablebase) (size (8 * rings) (a .mover) (a .opponent)) true
+    ⊎ Found (openDecided rings b (a .own .start) tablebase) (size (8 * rings) (b .mover) (b .opponent)) true
+PairFound rings a b tablebase false =
+    Found (openDecided rings a (b .own .start) tablebase) (size (8 * rings) (a .mover) (a .opponent)) false
+    × Found (openDecided rings b (a .own .start) tablebase) (size (8 * rings) (b .mover) (b .opponent)) false
+
+-- the parts of both tables and of their lower tables lie within a tablebase of a length
+abbrev pub PartIn : ℕ → Part → Type 0
+PartIn length p = (p .start ≤ p .end) × (p .end ≤ length)
+
+pub record InRoom (length : ℕ) (a b : Table) : Type 0 where
+  pub first : PartIn length (a .own)
+  pub second : PartIn length (b .own)
+  pub first-lower : PartIn length (a .lower)
+  pub second-lower : PartIn length (b .lower)
 
 -- both tables with one value throughout
 abbrev pub pairFilled : Table → Table → ℕ → List ℕ → List ℕ

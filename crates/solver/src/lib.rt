@@ -1,3 +1,4 @@
 // The solver: a pair of tables level by level, and a whole tablebase pair by pair, in place.
 mod levels;
+mod pairs;
 mod tables;

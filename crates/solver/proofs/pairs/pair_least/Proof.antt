@@ -1,0 +1,51 @@
+-- `solver::pairs::pair_least` meets its contract. Assumes nothing.
+use mathlib.Core.Path.{ap₂, _∙_}
+use Prim.Native.Nat.{min}
+use Rattle.solver.proofs.PairSteps.{least-of}
+use borrow.Author.Needs.{needs}
+use Rattle.solver.proofs.pairs.pair_least.Statement.{statement}
+use Rattle.solver.proofs.pairs.pair_least.Tie as tie
+
+least-depth-requires : tie.Need-least-depth-requires
+least-depth-requires c κs = search needs
+
+least-depth-requires-2 : tie.Need-least-depth-requires-2
+least-depth-requires-2 c κs = search needs
+
+least-depth-requires-3 : tie.Need-least-depth-requires-3
+least-depth-requires-3 c κs = search needs
+
+least-depth-requires-4 : tie.Need-least-depth-requires-4
+least-depth-requires-4 c κs = search needs
+
+least-requires : tie.Need-least-requires
+least-requires c κs = search needs
+
+least-requires-2 : tie.Need-least-requires-2
+least-requires-2 c κs = search needs
+
+least-requires-3 : tie.Need-least-requires-3
+least-requires-3 c κs = search needs
+
+returns : tie.Need-returns
+returns c =
+    let s = c .before .before .before .before .before .before .before .before .before .before .before .before in
+    let e = c .before .before in
+    let f = e .before in
+    c .least3 .ensures ∙ ap₂ min (e .least .ensures) (c .before .least2 .ensures)
+    ∙ least-of (s .args .first) (s .args .second) (s .args .low) (s .args .tablebase .now) (f .before .before .before .least-depth .result) (f .before .before .least-depth2 .result)
+    (f .before .least-depth3 .result) (f .least-depth4 .result) (f .before .before .before .least-depth .ensures) (f .before .before .least-depth2 .ensures)
+    (f .before .least-depth3 .ensures) (f .least-depth4 .ensures)
+
+pub pair-least-spec : {M : Type 1} → statement M
+pair-least-spec =
+    tie.close
+    (tie.spec
+    least-depth-requires
+    least-depth-requires-2
+    least-depth-requires-3
+    least-depth-requires-4
+    least-requires
+    least-requires-2
+    least-requires-3
+    returns)
