@@ -10,10 +10,10 @@ use lib.Dec.{leb, eqb}
 use borrow.Author.Tests.{leb-true, leb-false, eqb-true, eqb-false}
 use Rattle.lists.proofs.Tests.{clash, untrue, same-test}
 use Rattle.game.specs.Game.{Seed, live, ends, drawn, wonBy, lostBy, won, lost, ended, WonIn, LostIn, Depth, Draw, Entry}
-use Rattle.game.proofs.Least.{mono-le, mono-below, least-unique, least-find}
+use Rattle.game.proofs.Least.{mono-le, mono-below, least-unique, least-find, same-least}
 use Rattle.game.proofs.Within.{wonBy-is, wonBy-of, lostBy-is, lostBy-of, won-zero, won-ends, won-drawn, lost-ends, lost-drawn}
 use Rattle.game.proofs.Within.{by-plies, won-mono, lost-mono, ended-mono, never-both}
-use Rattle.game.proofs.Within.{won-ended, lost-ended, ended-cases, not-ended, open-not-won, open-not-lost}
+use Rattle.game.proofs.Within.{won-ended, lost-ended, ended-cases, neither-ended, neither-won, neither-lost}
 use Rattle.game.proofs.Steps.{win-step, loss-step}
 
 module _ {Pos : Type 0} (next : Pos → List Pos) (seed : Pos → Seed) where
@@ -60,21 +60,21 @@ module _ {Pos : Type 0} (next : Pos → List Pos) (seed : Pos → Seed) where
   pub won-depth : {n : ℕ} (p : Pos) → WonIn next seed n p → Depth next seed n p
   won-depth {n} p a = record {
     holds = won-ended next seed n p (a .holds);
-    below = λ k l. not-ended next seed k p (a .below k l) (sym (untrue (lost next seed k p) (λ t. never-both next seed n k p (a .holds) t)));
+    below = λ k l. neither-ended next seed k p (a .below k l) (sym (untrue (lost next seed k p) (λ t. never-both next seed n k p (a .holds) t)));
   }
 
   pub lost-depth : {n : ℕ} (p : Pos) → LostIn next seed n p → Depth next seed n p
   lost-depth {n} p a = record {
     holds = lost-ended next seed n p (a .holds);
-    below = λ k l. not-ended next seed k p (sym (untrue (won next seed k p) (λ t. never-both next seed k n p t (a .holds)))) (a .below k l);
+    below = λ k l. neither-ended next seed k p (sym (untrue (won next seed k p) (λ t. never-both next seed k n p t (a .holds)))) (a .below k l);
   }
 
   pub depth-cases : {n : ℕ} (p : Pos) → Depth next seed n p → WonIn next seed n p ⊎ LostIn next seed n p
   depth-cases {n} p a = go (ended-cases next seed n p (a .holds))
     where
       go : (won next seed n p ≡ true) ⊎ (lost next seed n p ≡ true) → WonIn next seed n p ⊎ LostIn next seed n p
-      go (inl w) = inl (record { holds = w; below = λ k l. open-not-won next seed k p (a .below k l) })
-      go (inr t) = inr (record { holds = t; below = λ k l. open-not-lost next seed k p (a .below k l) })
+      go (inl w) = inl (record { holds = w; below = λ k l. neither-won next seed k p (a .below k l) })
+      go (inr t) = inr (record { holds = t; below = λ k l. neither-lost next seed k p (a .below k l) })
 
   pub depth-odd : {n : ℕ} (p : Pos) → Depth next seed n p → n % 2 ≡ 1 → WonIn next seed n p
   depth-odd {n} p a o = go (depth-cases p a)
@@ -107,7 +107,7 @@ module _ {Pos : Type 0} (next : Pos → List Pos) (seed : Pos → Seed) where
       go false h = let k : d % 2 ≡ 1 → ⊥ = eqb-false (d % 2) 1 h in lost-depth p (ends-lost p e (omega arith))
 
   pub drawn-draw : (p : Pos) → seed p ≡ drawn → Draw next seed p
-  drawn-draw p e n = not-ended next seed n p (won-drawn next seed n p e) (lost-drawn next seed n p e)
+  drawn-draw p e n = neither-ended next seed n p (won-drawn next seed n p e) (lost-drawn next seed n p e)
 
   -- a position has one depth and one entry
   pub depth-unique : {n m : ℕ} (p : Pos) → Depth next seed n p → Depth next seed m p → n ≡ m
@@ -119,7 +119,7 @@ module _ {Pos : Type 0} (next : Pos → List Pos) (seed : Pos → Seed) where
   entry-unique {e} {f} p (inr a) (inl b) = clash (b .1 .holds) (a .1 f)
   entry-unique p (inr a) (inr b) = a .0 ∙ sym (b .0)
 
-  -- open within fewer than n plies
+  -- not ended within fewer than n plies
   abbrev pub NotBefore : ℕ → Pos → Type 0
   NotBefore n p = (k : ℕ) → k < n → ended next seed k p ≡ false
 
@@ -149,3 +149,9 @@ module _ {Pos : Type 0} (next : Pos → List Pos) (seed : Pos → Seed) where
       go l (inl x) b e = absurd (never-both next seed d n p (x .holds) l)
       go l (inr x) true e = lostBy-of (lost-even p x) (leb-true d n e)
       go l (inr x) false e = clash l (x .below n (leb-false d n e))
+
+-- positions, of one game or of two, that end within the same n have the same entry
+pub same-entry : {Pos₁ Pos₂ : Type 0} (next₁ : Pos₁ → List Pos₁) (seed₁ : Pos₁ → Seed) (p : Pos₁) (next₂ : Pos₂ → List Pos₂) (seed₂ : Pos₂ → Seed) (q : Pos₂)
+    → ((n : ℕ) → ended next₁ seed₁ n p ≡ ended next₂ seed₂ n q) → {e : ℕ} → Entry next₁ seed₁ p e → Entry next₂ seed₂ q e
+same-entry next₁ seed₁ p next₂ seed₂ q h (inl a) = inl (a .0, same-least _ _ h (a .1))
+same-entry next₁ seed₁ p next₂ seed₂ q h (inr a) = inr (a .0, λ n. sym (h n) ∙ a .1 n)

@@ -12,7 +12,7 @@ use Rattle.lists.specs.Lists.{any, all}
 use Rattle.lists.proofs.Tests.{clash, untrue, and-left, and-right, and-both, or-cases, or-left, or-right, any-member, all-member, any-none, all-fails}
 use Rattle.game.specs.Game.{Seed, won, lost, WonIn, LostIn, Depth, Entry, voidEntry}
 use Rattle.game.specs.Judgement.{isLost, isWon, decided}
-use Rattle.game.proofs.Within.{never-both, open-not-won, open-not-lost}
+use Rattle.game.proofs.Within.{never-both, neither-won, neither-lost}
 use Rattle.game.proofs.Depths.{depth-unique, depth-cases, depth-odd, depth-even, won-odd, lost-even}
 
 pub lost-is : {e : ℕ} → isLost e ≡ true → (e % 2 ≡ 0) × (e < voidEntry)
@@ -54,7 +54,7 @@ module _ {Pos : Type 0} (next : Pos → List Pos) (seed : Pos → Seed) (p : Pos
 
   -- an entry that is not lost: lost within no n
   pub entry-not-lost : Entry next seed p e → isLost e ≡ false → (n : ℕ) → lost next seed n p ≡ false
-  entry-not-lost (inr a) h n = open-not-lost next seed n p (a .1 n)
+  entry-not-lost (inr a) h n = neither-lost next seed n p (a .1 n)
   entry-not-lost (inl a) h n = go (depth-cases next seed p (a .1))
     where
       go : WonIn next seed e p ⊎ LostIn next seed e p → lost next seed n p ≡ false
@@ -62,7 +62,7 @@ module _ {Pos : Type 0} (next : Pos → List Pos) (seed : Pos → Seed) (p : Pos
       go (inr l) = clash (lost-of (lost-even next seed p l) (a .0)) h
 
   pub entry-not-won : Entry next seed p e → isWon e ≡ false → (n : ℕ) → won next seed n p ≡ false
-  entry-not-won (inr a) h n = open-not-won next seed n p (a .1 n)
+  entry-not-won (inr a) h n = neither-won next seed n p (a .1 n)
   entry-not-won (inl a) h n = go (depth-cases next seed p (a .1))
     where
       go : WonIn next seed e p ⊎ LostIn next seed e p → won next seed n p ≡ false

@@ -1,4 +1,5 @@
--- Where a table holds every depth below n, level n hits a position that is open before exactly when n is its depth. Assumes nothing.
+-- Where a table holds every depth below n, what level n hits has ended within n, and what has depth n is hit; and what a visit writes.
+-- Assumes nothing.
 use mathlib.Core.Path.{_≡_, refl, sym, _∙_, subst}
 use mathlib.Core.Bool.{Bool, true, false, _&&_}
 use mathlib.Core.List.{List, List·Memᴰ}

@@ -1,6 +1,6 @@
 -- The least number at which a test passes: there is at most one, and where a test stays passed once it has, one pass finds it.
 -- Assumes nothing.
-use mathlib.Core.Path.{_≡_, refl, sym}
+use mathlib.Core.Path.{_≡_, refl, sym, _∙_}
 use mathlib.Core.Bool.{Bool, true, false}
 use Prim.Native.Nat.{ℕ, zero, suc, _≤_}
 use native.Mathlib.Omega.{arith}
@@ -45,3 +45,7 @@ module _ (f : ℕ → Bool) where
       go : (b : Bool) → f n ≡ b → (f n ≡ true → (k : ℕ) × (k ≤ n) × Least f k) → (k : ℕ) × (k ≤ suc n) × Least f k
       go true e r = let s = r e in (s .0, omega (arith, s .1), s .2)
       go false e r = (suc n, omega arith, least-at h n e t)
+
+-- tests that agree have the same least number
+pub same-least : (f g : ℕ → Bool) → ((n : ℕ) → f n ≡ g n) → {n : ℕ} → Least f n → Least g n
+same-least f g h {n} a = record { holds = sym (h n) ∙ a .holds; below = λ k l. sym (h k) ∙ a .below k l }

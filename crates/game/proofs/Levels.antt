@@ -52,30 +52,35 @@ module _ {Pos : Type 0} (next : Pos → List Pos) (seed : Pos → Seed) (S : Pos
   pub level-start : (t : Pos → ℕ) (n : ℕ) → Exact t n → Within t n (λ p. ⊥)
   level-start t n x = record { seeds = x .seeds; low = x .low; fresh = λ p s e o. inl (x .blank p s e o); done = λ p s e d. absurd d }
 
-  -- level n of a table that has room for it
-  module _ (g : Ground next seed S) (n : ℕ) (b : n < voidEntry) where
+  -- in the middle of level n, and before, a table holds every depth below n
+  module _ (g : Ground next seed S) (n : ℕ) (b : n ≤ voidEntry) where
     within-upto : (t : Pos → ℕ) (D : Pos → Type 0) → Within t n D → Upto next seed S t n
     within-upto t D w = record {
       sound = λ q s l. sound q s l (live-or-true next seed S g t (w .seeds) q s);
       complete = λ q s k l d. complete q s k l d (live-or-true next seed S g t (w .seeds) q s);
     }
       where
-        found : (q : Pos) → S q → seed q ≡ live → t q < n → ((k : ℕ) × (k < n) × Depth next seed k q) ⊎ NotBefore next seed n q → Depth next seed (t q) q
-        found q s e l (inl (k, i, d)) = subst (λ (k : ℕ). Depth next seed k q) (sym (w .low q s e k i d)) d
-        found q s e l (inr o) = none (w .fresh q s e o)
+        low : (q : Pos) → S q → seed q ≡ live → t q < n → ((k : ℕ) × (k < n) × Depth next seed k q) ⊎ NotBefore next seed n q → Depth next seed (t q) q
+        low q s e l (inl (k, i, d)) = subst (λ (k : ℕ). Depth next seed k q) (sym (w .low q s e k i d)) d
+        low q s e l (inr o) = none (w .fresh q s e o)
           where
             none : Fresh n (t q) q → Depth next seed (t q) q
             none (inl v) = absurd (omega arith)
             none (inr v) = absurd (omega (arith, v .0))
 
         sound : (q : Pos) → S q → t q < n → (seed q ≡ live) ⊎ Entry next seed q (t q) → Depth next seed (t q) q
-        sound q s l (inl e) = found q s e l (before-or-not next seed n q)
+        sound q s l (inl e) = low q s e l (before-or-not next seed n q)
         sound q s l (inr a) = entry-depth next seed q a (omega arith)
 
         complete : (q : Pos) → S q → (k : ℕ) → k < n → Depth next seed k q → (seed q ≡ live) ⊎ Entry next seed q (t q) → t q ≡ k
         complete q s k l d (inl e) = w .low q s e k l d
         complete q s k l d (inr a) = depth-entry next seed q a d .0
 
+    exact-upto : (t : Pos → ℕ) → Exact t n → Upto next seed S t n
+    exact-upto t x = within-upto t (λ p. ⊥) (level-start t n x)
+
+  -- level n, where it is an entry
+  module _ (g : Ground next seed S) (n : ℕ) (b : n < voidEntry) where
     -- visits keep what holds in the middle of a level
     pub pass : (t u : Pos → ℕ) (D D′ : Pos → Type 0) → Within t n D → Pass t u n D D′ → Within u n D′
     pass t u D D′ w v = record {
@@ -95,7 +100,7 @@ module _ {Pos : Type 0} (next : Pos → List Pos) (seed : Pos → Seed) (S : Pos
         other-draw x = let z : _≡_ {A = ℕ} 0 1 = cc in omega arith
 
         upto : Upto next seed S t n
-        upto = within-upto t D w
+        upto = within-upto g n (omega arith) t D w
 
         visit-fresh : (p : Pos) → S p → seed p ≡ live → NotBefore next seed n p → Fresh n (t p) p → (h : Bool) → hit next t n p ≡ h
             → Fresh n (visit next t n p) p
@@ -131,7 +136,7 @@ module _ {Pos : Type 0} (next : Pos → List Pos) (seed : Pos → Seed) (S : Pos
         stays o (inl d) = d
         stays o (inr z) = absurd (o z)
 
-        go : (q : Pos) → ((q ≡ p → ⊥) × (u q ≡ t q)) ⊎ (u q ≡ visit next t n q) → ((D q ⊎ (q ≡ p) → D q) × (u q ≡ t q)) ⊎ (u q ≡ visit next t n q)
+        go : (q : Pos) → ((q ≡ p → ⊥) × (u q ≡ t q)) ⊎ (u q ≡ visit next t n q) → Visited t u n D (λ q. D q ⊎ (q ≡ p)) q
         go q (inl x) = inl (λ m. stays (x .0) m, x .1)
         go q (inr x) = inr x
 
@@ -164,7 +169,7 @@ module _ {Pos : Type 0} (next : Pos → List Pos) (seed : Pos → Seed) (S : Pos
     level t u C x covers given visited kept = level-done u (λ p. C p ≡ true)
         (pass t u (λ p. ⊥) (λ p. C p ≡ true) (level-start t n x) (record { given = given; each = λ q s e. go q s e (C q) refl })) covers
       where
-        go : (q : Pos) → S q → seed q ≡ live → (c : Bool) → C q ≡ c → ((C q ≡ true → ⊥) × (u q ≡ t q)) ⊎ (u q ≡ visit next t n q)
+        go : (q : Pos) → S q → seed q ≡ live → (c : Bool) → C q ≡ c → Visited t u n (λ p. ⊥) (λ p. C p ≡ true) q
         go q s e true f = inr (visited q s e f)
         go q s e false f = inl (λ h. clash h f, kept q s e f)
 
@@ -173,18 +178,18 @@ module _ {Pos : Type 0} (next : Pos → List Pos) (seed : Pos → Seed) (S : Pos
     exact-known : OpenOrTrue next seed S t
     exact-known q s = go (live-or-true next seed S g t (x .seeds) q s)
       where
-        found : seed q ≡ live → ((k : ℕ) × (k < n) × Depth next seed k q) ⊎ NotBefore next seed n q → Open next seed S t q ⊎ Entry next seed q (t q)
+        found : seed q ≡ live → ((k : ℕ) × (k < n) × Depth next seed k q) ⊎ NotBefore next seed n q → Open seed t q ⊎ Entry next seed q (t q)
         found e (inl (k, l, d)) = let a = x .low q s e k l d in inr (inl (omega arith, subst (λ (i : ℕ). Depth next seed i q) (sym a) d))
         found e (inr o) = inl (e, x .blank q s e o)
 
-        go : (seed q ≡ live) ⊎ Entry next seed q (t q) → Open next seed S t q ⊎ Entry next seed q (t q)
+        go : (seed q ≡ live) ⊎ Entry next seed q (t q) → Open seed t q ⊎ Entry next seed q (t q)
         go (inl e) = found e (before-or-not next seed n q)
         go (inr a) = inr a
 
     pub exact-sound : (q : Pos) → S q → t q < voidEntry → Depth next seed (t q) q
     exact-sound q s l = go (exact-known q s)
       where
-        go : Open next seed S t q ⊎ Entry next seed q (t q) → Depth next seed (t q) q
+        go : Open seed t q ⊎ Entry next seed q (t q) → Depth next seed (t q) q
         go (inl o) = absurd (omega (arith, o .1))
         go (inr a) = entry-depth next seed q a l
 
@@ -213,24 +218,21 @@ module _ {Pos : Type 0} (next : Pos → List Pos) (seed : Pos → Seed) (S : Pos
     occurs (suc j) l p s e d =
         let (q, m, y) = depth-step next seed j p e d in
         let r = g .closed p s e q m in
-        go q r y (live-or-true next seed S g t (x .seeds) q r) (ltb n j) refl (λ v i. occurs j i q r v y)
+        go q r y (ltb n j) refl (live-or-true next seed S g t (x .seeds) q r) (λ v i. occurs j i q r v y)
       where
-        go : (q : Pos) → S q → Depth next seed j q → (seed q ≡ live) ⊎ Entry next seed q (t q) → (c : Bool) → ltb n j ≡ c
+        go : (q : Pos) → S q → Depth next seed j q → (c : Bool) → ltb n j ≡ c → (seed q ≡ live) ⊎ Entry next seed q (t q)
             → (seed q ≡ live → n < j → Between j) → Between (suc j)
-        go q r y (inl v) true f lower = let w = lower v (ltb-true n j f) in (w .0, w .1, w .2, omega (arith, w .3), w .4)
-        go q r y (inl v) false f lower = let i = ltb-false n j f in let a = x .low q r v j (omega arith) y in (q, r, omega arith, omega arith, omega arith)
-        go q r y (inr a) c f lower = let w = depth-entry next seed q a y in (q, r, omega (arith, w .0), omega (arith, w .0), w .1)
+        go q r y true f (inl v) lower = let w = lower v (ltb-true n j f) in (w .0, w .1, w .2, omega (arith, w .3), w .4)
+        go q r y true f (inr a) lower = let w = depth-entry next seed q a y in let i = ltb-true n j f in (q, r, omega (arith, w .0), omega (arith, w .0), w .1)
+        go q r y false f c lower =
+            let i = ltb-false n j f in
+            let a = exact-upto g (suc n) b t x .complete q r j (omega arith) y in
+            (q, r, omega arith, omega arith, omega arith)
 
     -- what level n + 1 must visit: only positions with a successor whose entry is n
     pub sources : (p : Pos) → S p → seed p ≡ live → Depth next seed (suc n) p → (q : Pos) × List·Memᴰ q (next p) × (t q ≡ n)
     sources p s e d =
-        let (q, m, y) = depth-step next seed n p e d in
-        let r = g .closed p s e q m in
-        (q, m, go q r y (live-or-true next seed S g t (x .seeds) q r))
-      where
-        go : (q : Pos) → S q → Depth next seed n q → (seed q ≡ live) ⊎ Entry next seed q (t q) → t q ≡ n
-        go q r y (inl v) = x .low q r v n (omega arith) y
-        go q r y (inr a) = depth-entry next seed q a y .0
+        let (q, m, y) = depth-step next seed n p e d in (q, m, exact-upto g (suc n) b t x .complete q (g .closed p s e q m) n (omega arith) y)
 
     -- levels can be passed over where no entry from n on occurs below them
     pub skip : (m : ℕ) → n ≤ m → ((q : Pos) → S q → n ≤ t q → t q < m → ⊥) → Exact t (suc m)
@@ -252,7 +254,7 @@ module _ {Pos : Type 0} (next : Pos → List Pos) (seed : Pos → Seed) (S : Pos
         deep e v k d true f = let w = occurs k (ltb-true n k f) p s e d in none (w .0) (w .1) (w .2) (w .4)
         deep e v k d false f = let i = ltb-false n k f in omega (arith, x .low p s e k (omega arith) d)
 
-        go : Open next seed S t p ⊎ Entry next seed p (t p) → Entry next seed p (t p)
+        go : Open seed t p ⊎ Entry next seed p (t p) → Entry next seed p (t p)
         go (inl (e, v)) = inr (
           v,
           λ k. sym (untrue (ended next seed k p)

@@ -2,8 +2,15 @@ pub mod Least
 pub mod Within
 pub mod Steps
 pub mod Depths
-pub mod Tables
-pub mod Hits
+pub mod Outcomes
 pub mod Entries
+pub mod Judging
+pub mod Tables
+pub mod JudgedDepths
+pub mod Hits
 pub mod Stopping
 pub mod Levels
+pub mod Certificate
+pub mod Compose
+pub mod Play
+pub mod Computed

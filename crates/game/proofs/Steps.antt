@@ -46,9 +46,6 @@ module _ {Pos : Type 0} (next : Pos → List Pos) (seed : Pos → Seed) where
   pub loss-zero : (p : Pos) → seed p ≡ live → isEmpty (next p) ≡ true → LostIn next seed zero p
   loss-zero p e h = least-zero _ (lost-zero next seed p e ∙ h)
 
-  pub zero-loss : (p : Pos) → seed p ≡ live → LostIn next seed zero p → isEmpty (next p) ≡ true
-  zero-loss p e a = sym (lost-zero next seed p e) ∙ a .holds
-
   -- the successor that holds out longest
   longest : (n : ℕ) (p : Pos) → seed p ≡ live → lost next seed n p ≡ false → ((q : Pos) → List·Memᴰ q (next p) → won next seed n q ≡ true)
       → (q : Pos) × List·Memᴰ q (next p) × WonIn next seed n q

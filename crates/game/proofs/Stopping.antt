@@ -10,18 +10,22 @@ use Rattle.lists.specs.Lists.{isEmpty}
 use Rattle.lists.proofs.Tests.{untrue, member-any, none-any, fails-all, empty-none}
 use Rattle.game.specs.Game.{Seed, live, won, lost, ended, Draw, Entry, drawEntry, voidEntry}
 use Rattle.game.specs.Judgement.{isLost, isWon, decided}
-use Rattle.game.proofs.Within.{won-zero, won-suc, lost-zero, lost-suc, won-ended, lost-ended, not-ended}
+use Rattle.game.proofs.Within.{won-zero, won-suc, lost-zero, lost-suc, won-ended, lost-ended, neither-ended}
 use Rattle.game.proofs.Steps.{all-won-lost}
 use Rattle.game.proofs.Tables.{Ground}
 use Rattle.game.proofs.Entries.{lost-is, won-is, entry-lost, entry-won, entry-not-lost, entry-not-won, decided-cases, undecided-no-lost}
 use Rattle.game.proofs.Entries.{undecided-not-won}
 
+-- the plies decide, and no depth is known
+abbrev pub Open : {Pos : Type 0} → (Pos → Seed) → (Pos → ℕ) → Pos → Type 0
+Open seed t p = (seed p ≡ live) × (t p ≡ drawEntry)
+
 module _ {Pos : Type 0} (next : Pos → List Pos) (seed : Pos → Seed) where
   -- positions that hold together: no ply leads from one of them to a lost position outside, and from each some ply stays or leads to one never won
-  pub record Trap (U : Pos → Type 0) : Type 0 where
-    pub plies : (p : Pos) → U p → seed p ≡ live
-    pub no-loss : (p : Pos) → U p → (q : Pos) → List·Memᴰ q (next p) → U q ⊎ ((n : ℕ) → lost next seed n q ≡ false)
-    pub stay : (p : Pos) → U p → (q : Pos) × List·Memᴰ q (next p) × (U q ⊎ ((n : ℕ) → won next seed n q ≡ false))
+  record Trap (U : Pos → Type 0) : Type 0 where
+    plies : (p : Pos) → U p → seed p ≡ live
+    no-loss : (p : Pos) → U p → (q : Pos) → List·Memᴰ q (next p) → U q ⊎ ((n : ℕ) → lost next seed n q ≡ false)
+    stay : (p : Pos) → U p → (q : Pos) × List·Memᴰ q (next p) × (U q ⊎ ((n : ℕ) → won next seed n q ≡ false))
 
   module _ (U : Pos → Type 0) (t : Trap U) where
     held : (n : ℕ) (p : Pos) → U p → (won next seed n p ≡ false) × (lost next seed n p ≡ false)
@@ -37,29 +41,25 @@ module _ {Pos : Type 0} (next : Pos → List Pos) (seed : Pos → Seed) where
         outside q b r f (inr c) = f c
 
     -- all of them are drawn
-    pub trap-draw : (p : Pos) → U p → Draw next seed p
-    trap-draw p u n = let s = held n p u in not-ended next seed n p (s .0) (s .1)
+    trap-draw : (p : Pos) → U p → Draw next seed p
+    trap-draw p u n = let s = held n p u in neither-ended next seed n p (s .0) (s .1)
 
   module _ (S : Pos → Type 0) (t : Pos → ℕ) where
-    -- the plies decide, and no depth is known
-    abbrev pub Open : Pos → Type 0
-    Open p = (seed p ≡ live) × (t p ≡ drawEntry)
-
     abbrev pub OpenOrTrue : Type 0
-    OpenOrTrue = (q : Pos) → S q → Open q ⊎ Entry next seed q (t q)
+    OpenOrTrue = (q : Pos) → S q → Open seed t q ⊎ Entry next seed q (t q)
 
     module _ (g : Ground next seed S) (k : OpenOrTrue) where
       is-lost : (q : Pos) → S q → isLost (t q) ≡ true → lost next seed (t q) q ≡ true
       is-lost q s h = go (k q s)
         where
-          go : Open q ⊎ Entry next seed q (t q) → lost next seed (t q) q ≡ true
+          go : Open seed t q ⊎ Entry next seed q (t q) → lost next seed (t q) q ≡ true
           go (inl o) = absurd (omega (arith, o .1, lost-is h .1))
           go (inr a) = entry-lost next seed q a h .holds
 
       is-won : (q : Pos) → S q → isWon (t q) ≡ true → won next seed (t q) q ≡ true
       is-won q s h = go (k q s)
         where
-          go : Open q ⊎ Entry next seed q (t q) → won next seed (t q) q ≡ true
+          go : Open seed t q ⊎ Entry next seed q (t q) → won next seed (t q) q ≡ true
           go (inl o) = absurd (omega (arith, o .1, won-is h .1))
           go (inr a) = entry-won next seed q a h .holds
 
@@ -80,7 +80,7 @@ module _ {Pos : Type 0} (next : Pos → List Pos) (seed : Pos → Seed) where
       -- where no open position is decided, every entry is true
       module _ (still : (p : Pos) → S p → seed p ≡ live → t p ≡ drawEntry → decided next t p ≡ false) where
         Left : Pos → Type 0
-        Left p = S p × Open p
+        Left p = S p × Open seed t p
 
         trap : Trap Left
         unfolding Left
@@ -90,11 +90,11 @@ module _ {Pos : Type 0} (next : Pos → List Pos) (seed : Pos → Seed) where
           stay = λ p (s, (e, v)). let (q, m, w) = undecided-not-won next t p (still p s e v) in let r = g .closed p s e q m in (q, m, up q r w (k q r));
         }
           where
-            low : (q : Pos) → S q → isLost (t q) ≡ false → Open q ⊎ Entry next seed q (t q) → Left q ⊎ ((n : ℕ) → lost next seed n q ≡ false)
+            low : (q : Pos) → S q → isLost (t q) ≡ false → Open seed t q ⊎ Entry next seed q (t q) → Left q ⊎ ((n : ℕ) → lost next seed n q ≡ false)
             low q r f (inl o) = inl (r, o)
             low q r f (inr a) = inr (entry-not-lost next seed q a f)
 
-            up : (q : Pos) → S q → isWon (t q) ≡ false → Open q ⊎ Entry next seed q (t q) → Left q ⊎ ((n : ℕ) → won next seed n q ≡ false)
+            up : (q : Pos) → S q → isWon (t q) ≡ false → Open seed t q ⊎ Entry next seed q (t q) → Left q ⊎ ((n : ℕ) → won next seed n q ≡ false)
             up q r f (inl o) = inl (r, o)
             up q r f (inr a) = inr (entry-not-won next seed q a f)
 
@@ -102,6 +102,6 @@ module _ {Pos : Type 0} (next : Pos → List Pos) (seed : Pos → Seed) where
         unfolding Left
         undecided-true p s = go (k p s)
           where
-            go : Open p ⊎ Entry next seed p (t p) → Entry next seed p (t p)
+            go : Open seed t p ⊎ Entry next seed p (t p) → Entry next seed p (t p)
             go (inl o) = inr (o .1, trap-draw Left trap p (s, o))
             go (inr a) = a

@@ -126,7 +126,7 @@ module _ {Pos : Type 0} (next : Pos → List Pos) (seed : Pos → Seed) where
   pub never-both : (n m : ℕ) (p : Pos) → won next seed n p ≡ true → lost next seed m p ≡ true → ⊥
   never-both n m p w l = not-both (max n m) p (mono-le _ (won-mono p) (omega arith) w) (mono-le _ (lost-mono p) (omega arith) l)
 
-  -- ended within n: won or lost; open: neither
+  -- ended within n: won or lost; not ended: neither
   pub won-ended : (n : ℕ) (p : Pos) → won next seed n p ≡ true → ended next seed n p ≡ true
   unfolding ended
   won-ended n p = left-or (won next seed n p) (lost next seed n p)
@@ -139,17 +139,17 @@ module _ {Pos : Type 0} (next : Pos → List Pos) (seed : Pos → Seed) where
   unfolding ended
   ended-cases n p = or-cases (won next seed n p) (lost next seed n p)
 
-  pub not-ended : (n : ℕ) (p : Pos) → won next seed n p ≡ false → lost next seed n p ≡ false → ended next seed n p ≡ false
+  pub neither-ended : (n : ℕ) (p : Pos) → won next seed n p ≡ false → lost next seed n p ≡ false → ended next seed n p ≡ false
   unfolding ended
-  not-ended n p w l = rw (w, l)
+  neither-ended n p w l = rw (w, l)
 
-  pub open-not-won : (n : ℕ) (p : Pos) → ended next seed n p ≡ false → won next seed n p ≡ false
+  pub neither-won : (n : ℕ) (p : Pos) → ended next seed n p ≡ false → won next seed n p ≡ false
   unfolding ended
-  open-not-won n p = or-left (won next seed n p) (lost next seed n p)
+  neither-won n p = or-left (won next seed n p) (lost next seed n p)
 
-  pub open-not-lost : (n : ℕ) (p : Pos) → ended next seed n p ≡ false → lost next seed n p ≡ false
+  pub neither-lost : (n : ℕ) (p : Pos) → ended next seed n p ≡ false → lost next seed n p ≡ false
   unfolding ended
-  open-not-lost n p = or-right (won next seed n p) (lost next seed n p)
+  neither-lost n p = or-right (won next seed n p) (lost next seed n p)
 
   pub ended-mono : (p : Pos) → Mono (λ n. ended next seed n p)
   ended-mono p n h = go (ended-cases n p h)

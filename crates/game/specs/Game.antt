@@ -78,3 +78,10 @@ abbrev pub HasOutcome : {Pos : Type 0} → (Pos → List Pos) → (Pos → Seed)
 HasOutcome next seed p (moverWins n) = WonIn next seed n p
 HasOutcome next seed p (opponentWins n) = LostIn next seed n p
 HasOutcome next seed p neither = Draw next seed p
+
+-- the outcome that an entry states: "Even is lost for the mover, odd is won."
+unfoldable pub outcomeOf : ℕ → Outcome
+outcomeOf e = elim (eqb e drawEntry) [
+  | true ↦ neither
+  | false ↦ elim (eqb (e % 2) 1) [ true ↦ moverWins e | false ↦ opponentWins e ]
+]

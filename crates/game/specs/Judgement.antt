@@ -45,6 +45,6 @@ module _ {Pos : Type 0} (next : Pos → List Pos) (t : Pos → ℕ) where
   unfoldable pub decided : Pos → Bool
   decided p = any (λ q. isLost (t q)) (next p) || all (λ q. isWon (t q)) (next p)
 
-  -- what a solver's visit at level n leaves at p: n where p is open, that is, its entry is draw, and level n hits it
+  -- what a visit at level n leaves at p: n where the entry is draw and level n hits p, else the entry
   unfoldable pub visit : ℕ → Pos → ℕ
   visit n p = elim (eqb (t p) drawEntry && hit n p) [ true ↦ n | false ↦ t p ]

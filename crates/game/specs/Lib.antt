@@ -1,2 +1,3 @@
 pub mod Game
 pub mod Judgement
+pub mod Play
