@@ -10,7 +10,7 @@ use lib.Dec.{eqb}
 use borrow.Author.Tests.{eqb-true, eq-eqb}
 use Rattle.lists.specs.Lists.{any, isEmpty}
 use Rattle.lists.proofs.Members.{map-member, member-map}
-use Rattle.lists.proofs.Tests.{same-test, clash, any-member, member-any, empty-none, none-empty, untrue}
+use Rattle.lists.proofs.Tests.{same-test, clash, any-member, member-any}
 use Rattle.game.specs.Game.{drawEntry}
 use Rattle.game.specs.Judgement.{isLost}
 use Rattle.game.proofs.Entries.{lost-is}

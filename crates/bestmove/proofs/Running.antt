@@ -1,14 +1,13 @@
 -- A loop over the moves that keeps the best so far: its invariant, with its start, its step and its end. Assumes nothing.
-use mathlib.Core.Path.{_≡_, refl, sym, ap, ap₂, subst, _∙_}
+use mathlib.Core.Path.{_≡_, refl, sym, ap, ap₂, _∙_}
 use mathlib.Core.Bool.{Bool, true, false}
 use mathlib.Core.List.{List, [], _∷_, map, List·Memᴰ}
-use Prim.Native.Nat.{ℕ, suc, _+_, _≤_, _<_}
+use Prim.Native.Nat.{ℕ, _+_, _≤_, _<_}
 use native.Mathlib.Numerals.{add-one}
 use native.Mathlib.Omega.{arith}
 use lib.Dec.{ltb}
 use lib.ListN.{length, getD, drop}
 use lib.Seq.{drop-cons, drop-length}
-use Rattle.lists.specs.Lists.{isEmpty}
 use Rattle.bestmove.specs.declared.Best.{Best}
 use Rattle.bestmove.specs.Best.{bestEntry, bestMove, worth}
 use Rattle.bestmove.proofs.FirstGreatest.{kept, kept-better, kept-same}

@@ -1,8 +1,8 @@
 -- What a move to an entry is worth: two entries worth the same are the same, unless they are void, and the one worth most is the best. Assumes nothing.
-use mathlib.Core.Path.{_≡_, refl, sym, ap, subst, _∙_}
+use mathlib.Core.Path.{_≡_, refl, sym, subst, _∙_}
 use mathlib.Core.Bool.{Bool, true, false}
-use mathlib.Core.List.{List, [], _∷_, List·Memᴰ, List·Memᴰ·not-nil}
-use Prim.Native.Nat.{ℕ, _-_, _≤_, _<_, _%_}
+use mathlib.Core.List.{List, List·Memᴰ}
+use Prim.Native.Nat.{ℕ, _+_, _-_, _≤_, _<_, _%_}
 use native.Mathlib.Omega.{arith}
 use lib.Dec.{eqb, ltb}
 use borrow.Author.Tests.{eqb-true, eqb-false, eq-eqb, ltb-true, ltb-false}
@@ -18,15 +18,15 @@ use Rattle.bestmove.specs.Best.{bestEntry, worth}
 lost-not-won : (e : ℕ) → isLost e ≡ true → isWon e ≡ false
 lost-not-won e l = sym (untrue (isWon e) (λ w. omega (arith, lost-is l .0, won-is w .0)))
 
-pub worth-won : (e : ℕ) → isWon e ≡ true → worth e ≡ e
+pub worth-won : (e : ℕ) → isWon e ≡ true → worth e ≡ drawEntry - (voidEntry - e)
 unfolding worth
 worth-won e w = rw (w, worth)
 
-pub worth-lost : (e : ℕ) → isLost e ≡ true → worth e ≡ 131072 - e
+pub worth-lost : (e : ℕ) → isLost e ≡ true → worth e ≡ drawEntry + (voidEntry - e)
 unfolding worth
 worth-lost e l = rw (lost-not-won e l, l, worth)
 
-pub worth-other : (e : ℕ) → voidEntry ≤ e → worth e ≡ 65536
+pub worth-other : (e : ℕ) → voidEntry ≤ e → worth e ≡ drawEntry
 unfolding worth
 worth-other e h =
     let w : isWon e ≡ false = sym (untrue (isWon e) (λ t. omega (arith, won-is t .1))) in
@@ -40,9 +40,9 @@ pub record Told (e : ℕ) : Type 0 where
 
 -- its worth, by what it says
 data Kind (e : ℕ) : ℕ → Type 0 where
-  won : isWon e ≡ true → e < voidEntry → Kind e e
-  draw : e ≡ drawEntry → Kind e 65536
-  lost : isLost e ≡ true → e < voidEntry → Kind e (131072 - e)
+  won : isWon e ≡ true → e < voidEntry → Kind e (drawEntry - (voidEntry - e))
+  draw : e ≡ drawEntry → Kind e drawEntry
+  lost : isLost e ≡ true → e < voidEntry → Kind e (drawEntry + (voidEntry - e))
 
 kind : (e : ℕ) → Told e → Kind e (worth e)
 kind e t = go (ltb e voidEntry) refl (eqb (e % 2) 1) refl
@@ -62,7 +62,7 @@ pub worth-one : (a b : ℕ) → Told a → Told b → worth a ≡ worth b → a 
 worth-one a b s t e = go (worth a) (worth b) (kind a s) (kind b t) e
   where
     go : (x y : ℕ) → Kind a x → Kind b y → x ≡ y → a ≡ b
-    go x y (won p h) (won q l) r = r
+    go x y (won p h) (won q l) r = omega arith
     go x y (won p h) (draw q) r = omega arith
     go x y (won p h) (lost q l) r = omega arith
     go x y (draw p) (won q l) r = omega arith
@@ -93,7 +93,7 @@ module _ (es : List ℕ) (told : (x : ℕ) → List·Memᴰ x es → Told x) (e 
   top-lost : (x : ℕ) → List·Memᴰ x es → isLost x ≡ true → isLost e ≡ true
   top-lost x i l = go (worth e) (kind e (told e m)) (subst (λ (w : ℕ). w ≤ worth e) (worth-lost x l) (top x i))
     where
-      go : (w : ℕ) → Kind e w → 131072 - x ≤ w → isLost e ≡ true
+      go : (w : ℕ) → Kind e w → drawEntry + (voidEntry - x) ≤ w → isLost e ≡ true
       go w (won p h) a = absurd (omega (arith, lost-is l .1))
       go w (draw p) a = absurd (omega (arith, lost-is l .1))
       go w (lost p h) a = p
@@ -108,7 +108,7 @@ module _ (es : List ℕ) (told : (x : ℕ) → List·Memᴰ x es → Told x) (e 
   top-draw : (x : ℕ) → List·Memᴰ x es → x ≡ drawEntry → isLost e ≡ false → drawEntry ≡ e
   top-draw x i d n = go (worth e) (kind e (told e m)) (subst (λ (w : ℕ). w ≤ worth e) (worth-other x (omega arith)) (top x i))
     where
-      go : (w : ℕ) → Kind e w → 65536 ≤ w → drawEntry ≡ e
+      go : (w : ℕ) → Kind e w → drawEntry ≤ w → drawEntry ≡ e
       go w (won p h) a = absurd (omega arith)
       go w (draw p) a = sym p
       go w (lost p h) a = clash p n
@@ -125,7 +125,8 @@ module _ (es : List ℕ) (told : (x : ℕ) → List·Memᴰ x es → Told x) (e 
   high : ((x : ℕ) → List·Memᴰ x es → isWon x ≡ true) → greatest es ≡ e
   high w =
       let i = greatest-in es (sym (untrue (isEmpty es) (λ t. empty-none es t m))) in
-      omega (arith, greatest-high es e m, top (greatest es) i, worth-won (greatest es) (w (greatest es) i), worth-won e (w e m))
+      let g = w (greatest es) i in
+      omega (arith, greatest-high es e m, top (greatest es) i, worth-won (greatest es) g, worth-won e (w e m), won-is g .1, won-is (w e m) .1)
 
   -- in each case the best
   pub best-is : bestEntry es ≡ e

@@ -2,12 +2,12 @@
 -- entries"): a move to a lost successor wins, and one to a won successor loses. Assumes nothing.
 use mathlib.Core.Bool.{Bool, true, false}
 use mathlib.Core.List.{List, [], _∷_, map}
-use Prim.Native.Nat.{ℕ, _-_}
+use Prim.Native.Nat.{ℕ, _+_, _-_}
 use lib.Dec.{eqb}
 use Rattle.lists.specs.Lists.{any}
 use Rattle.board.specs.Board.{count}
 use Rattle.rules.specs.Ply.{afterPly}
-use Rattle.game.specs.Game.{drawEntry}
+use Rattle.game.specs.Game.{drawEntry, voidEntry}
 use Rattle.game.specs.Judgement.{isLost, isWon, leastLost, greatest}
 use Rattle.probing.specs.Probes.{probe}
 
@@ -31,6 +31,9 @@ bestMove f ms = firstThat (λ m. eqb (f m) (bestEntry (map f ms))) ms
 abbrev pub entryBy : List ℕ → ℕ → ℕ → List ℕ → ℕ → ℕ
 entryBy tablebase same fewer b m = probe tablebase same fewer (count 2 b) (afterPly b m)
 
--- entries by what a move to them is worth: the won ones by depth, draw, then the lost ones, the least depth highest
+-- what a move to an entry is worth: less than a draw where the entry is won, the longer the better, and more where it is lost, the shorter the better
 unfoldable pub worth : ℕ → ℕ
-worth e = elim (isWon e) [ true ↦ e | false ↦ elim (isLost e) [ true ↦ 131072 - e | false ↦ 65536 ] ]
+worth e = elim (isWon e) [
+  | true ↦ drawEntry - (voidEntry - e)
+  | false ↦ elim (isLost e) [ true ↦ drawEntry + (voidEntry - e) | false ↦ drawEntry ]
+]

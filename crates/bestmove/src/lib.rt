@@ -15,11 +15,11 @@ ghost use Rattle.plies.specs.Positions.{Placed};
 ghost use Rattle.probing.specs.Probes.{probe, Reads};
 ghost use Rattle.bestmove.specs.Best.{bestEntry, bestMove, entryBy, worth};
 
-// Entries below are depths; this one is void, the next draw.
+// Entries below are depths.
 const VOID: u32 = 65534;
 
-// The worth of a draw, above that of every won entry.
-const DRAW: u32 = 65536;
+// The entry of a draw, and its worth.
+const DRAW: u32 = 65535;
 
 // No position has more moves.
 const MOVES_MAX: usize = 324;
@@ -38,10 +38,11 @@ fn worth(entry: u16) -> u32
     if VOID <= e {
         return DRAW;
     }
+    let nearness = VOID - e;
     if e % 2 == 1 {
-        return e;
+        return DRAW - nearness;
     }
-    DRAW + DRAW - e
+    DRAW + nearness
 }
 
 // Of two moves the first, unless the second is better.
@@ -113,4 +114,43 @@ fn best_of(
         i += 1;
     }
     best
+}
+
+// The best move of a position that has a move and no successor whose entry is void.
+pub fn best_move(
+    tablebase: &[u16],
+    binomials: &[u32; 625],
+    near: &[u32; 24],
+    mills: &[u32; 48],
+    rings: usize,
+    same: usize,
+    fewer: usize,
+    position: board::Position,
+) -> Best
+    requires { ⌜ BinomialTable (now binomials) ⌝ }
+    requires { ⌜ NeighbourMasks rings (now near) ⌝ }
+    requires { ⌜ MillMasks rings (now mills) ⌝ }
+    requires { ⌜ Placed rings position ⌝ }
+    requires { ⌜ Reads (length (now tablebase)) (8 * rings) (count 1 (boardOf (8 * rings) position)) (count 2 (boardOf (8 * rings) position)) same fewer ⌝ }
+    requires { ⌜ any (λ b. eqb (probe (now tablebase) same fewer (count 2 (boardOf (8 * rings) position)) b) voidEntry)
+        (successors (λ n c. removable n c) rings (boardOf (8 * rings) position)) ≡ false ⌝ }
+    requires { ⌜ 1 ≤ length (listedMoves rings (boardOf (8 * rings) position)) ⌝ }
+    requires { ⌜ (count 1 (boardOf (8 * rings) position) ≤ 9) × (1 ≤ count 2 (boardOf (8 * rings) position)) × (count 2 (boardOf (8 * rings) position) ≤ 9) ⌝ }
+    ensures number { λ r. ⌜ r .number ≡ bestMove (λ m. entryBy (now (tablebase .entry)) same fewer (boardOf (8 * rings) position) m)
+        (listedMoves rings (boardOf (8 * rings) position)) ⌝ }
+    ensures entry { λ r. ⌜ r .entry ≡ bestEntry (map (λ m. entryBy (now (tablebase .entry)) same fewer (boardOf (8 * rings) position) m)
+        (listedMoves rings (boardOf (8 * rings) position))) ⌝ }
+{
+    let mut list = [0u16; MOVES_MAX];
+    plies::list_moves(rings, near, mills, position, &mut list);
+    let count = plies::count_moves(rings, near, mills, position);
+    best_of(
+        tablebase,
+        binomials,
+        rings,
+        same,
+        fewer,
+        position,
+        &list[..count],
+    )
 }
