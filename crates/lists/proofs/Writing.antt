@@ -2,17 +2,21 @@
 -- nothing.
 use mathlib.Core.Path.{_≡_, refl, sym, ap, _∙_}
 use mathlib.Core.List.{List, [], _∷_, _++_}
-use Prim.Native.Nat.{ℕ, suc, _+_}
+use Prim.Native.Nat.{ℕ, suc, _+_, _≤_}
 use native.Mathlib.Nat.{add-zero, add-suc, suc-add}
 use native.Mathlib.Omega.{arith}
-use lib.ListN.{length, set, length-append}
-use lib.Seq.{sets, length-sets}
+use lib.ListN.{length, set, take, drop, length-append}
+use lib.Seq.{sets, length-sets, sets-eq, take-append-seam}
 
 pub sets-append : (l : List ℕ) (i : ℕ) (xs ys : List ℕ) → sets l i (xs ++ ys) ≡ sets (sets l i xs) (i + length xs) ys
 sets-append l i [] ys = ap (λ (k : ℕ). sets l k ys) (sym (add-zero i))
 sets-append l i (x ∷ xs) ys =
     sets-append (set l i x) (suc i) xs ys
     ∙ ap (λ (k : ℕ). sets (sets (set l i x) (suc i) xs) k ys) (suc-add i (length xs) ∙ sym (add-suc i (length xs)))
+
+-- what is written at the start is read there
+pub sets-start : (l xs : List ℕ) → length xs ≤ length l → take (length xs) (sets l 0 xs) ≡ xs
+sets-start l xs h = ap (take (length xs)) (sets-eq xs l 0 (omega arith)) ∙ take-append-seam xs (drop (0 + length xs) l)
 
 -- old was to take `whole` from `start` on; now l is to take `rest` from k on
 pub record Writing (old : List ℕ) (start : ℕ) (whole : List ℕ) (l : List ℕ) (k : ℕ) (rest : List ℕ) : Type 0 where

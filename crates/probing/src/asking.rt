@@ -62,16 +62,14 @@ fn leads(
     requires { ⌜ member number (listedMoves rings (boardOf (8 * rings) position)) ≡ true ⌝ }
     ensures { λ r. ⌜ r ≡ answers (now (tablebase .entry)) question (boardOf (8 * rings) position) (afterPly (boardOf (8 * rings) position) number) ⌝ }
 {
-    let opponent = sets::count(position.opponent) as usize;
-    let after = plies::after_ply(rings, position, number);
-    let entry = entries::entry_after(
+    let entry = entries::entry_after_move(
         tablebase,
         binomials,
         rings,
         question.same,
         question.fewer,
-        opponent,
-        after,
+        position,
+        number,
     );
     asked(question, entry)
 }

@@ -1,11 +1,14 @@
 // Entries read from a tablebase, each table given by where it starts.
 ghost use mathlib.Core.Path.{_≡_};
+ghost use mathlib.Core.Bool.{true};
 ghost use Prim.Native.Nat.{_+_, _*_, _≤_};
 ghost use lib.ListN.{length, getD};
+ghost use Rattle.lists.specs.Lists.{member};
 ghost use Rattle.board.specs.Board.{count, boardOf};
 ghost use Rattle.sizes.specs.Size.{size};
 ghost use Rattle.sizes.specs.Binomial.{BinomialTable};
 ghost use Rattle.ranking.specs.Rank.{rank};
+ghost use Rattle.rules.specs.Ply.{afterPly, listedMoves};
 ghost use Rattle.plies.specs.Positions.{Placed};
 ghost use Rattle.probing.specs.Probes.{probe, Left, Reads};
 
@@ -49,4 +52,25 @@ pub fn entry_after(
         return 0;
     }
     entry_in(tablebase, binomials, rings, fewer, position)
+}
+
+// The entry of the position that a listed move leads to.
+pub fn entry_after_move(
+    tablebase: &[u16],
+    binomials: &[u32; 625],
+    rings: usize,
+    same: usize,
+    fewer: usize,
+    position: board::Position,
+    number: usize,
+) -> u16
+    requires { ⌜ BinomialTable (now binomials) ⌝ }
+    requires { ⌜ Placed rings position ⌝ }
+    requires { ⌜ Reads (length (now tablebase)) (8 * rings) (count 1 (boardOf (8 * rings) position)) (count 2 (boardOf (8 * rings) position)) same fewer ⌝ }
+    requires { ⌜ member number (listedMoves rings (boardOf (8 * rings) position)) ≡ true ⌝ }
+    ensures { λ r. ⌜ r ≡ probe (now (tablebase .entry)) same fewer (count 2 (boardOf (8 * rings) position)) (afterPly (boardOf (8 * rings) position) number) ⌝ }
+{
+    let opponent = sets::count(position.opponent) as usize;
+    let after = plies::after_ply(rings, position, number);
+    entry_after(tablebase, binomials, rings, same, fewer, opponent, after)
 }

@@ -51,13 +51,13 @@ pub fn hits(
         };
         return some_successor(tablebase, binomials, near, mills, rings, lost, position);
     }
-    let other = Question {
+    let later = Question {
         same: same,
         fewer: fewer,
         low: level,
         high: END,
     };
-    !some_successor(tablebase, binomials, near, mills, rings, other, position)
+    !some_successor(tablebase, binomials, near, mills, rings, later, position)
 }
 
 // Whether they give it some depth: one is lost, or all are won.

@@ -2,3 +2,7 @@
 mod levels;
 mod pairs;
 mod tables;
+mod whole;
+
+pub use whole::lower_void;
+pub use whole::solve_pair;

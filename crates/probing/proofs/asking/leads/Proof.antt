@@ -1,56 +1,12 @@
--- `probing::asking::leads` meets its contract: the position after the move stands for the board after it. Assumes nothing.
-use mathlib.Core.Path.{_≡_, sym, ap, ap₂, subst, _∙_}
-use Prim.Native.Nat.{_*_}
-use native.Mathlib.Omega.{arith}
-use Rattle.board.specs.Board.{count, boardOf}
-use Rattle.board.proofs.OneToOne.{opponent-count}
-use Rattle.rules.specs.Ply.{afterPly}
-use Rattle.plies.specs.Positions.{Placed}
-use Rattle.plies.proofs.After.{after-leads, after-placed, after-board}
-use Rattle.probing.specs.Probes.{probe, asked}
-use Rattle.probing.proofs.Reading.{left-of}
+-- `probing::asking::leads` meets its contract. Assumes nothing.
+use mathlib.Core.Path.{ap, _∙_}
+use Rattle.probing.specs.Probes.{asked}
 use borrow.Author.Needs.{needs}
 use Rattle.probing.proofs.asking.leads.Statement.{statement}
 use Rattle.probing.proofs.asking.leads.Tie as tie
 
--- the opponent's stones
-stones : (c : tie.After-count) → c .count .result ≡ count 2 (boardOf (8 * c .before .before .args .rings) (c .before .before .args .position))
-stones c =
-    let s = c .before .before in
-    c .count .ensures ∙ opponent-count (8 * s .args .rings) (s .args .position) (s .pre .1 .0 .on) (omega (arith, s .pre .1 .0 .small))
-
--- the board after the move
-reached : (c : tie.After-after-ply)
-    → boardOf (8 * c .before .before .before .args .rings) (c .after-ply .result)
-    ≡ afterPly (boardOf (8 * c .before .before .before .args .rings) (c .before .before .before .args .position)) (c .before .before .before .args .number)
-reached c =
-    let s = c .before .before .before in
-    let a = s .args in
-    ap (boardOf (8 * a .rings)) (c .after-ply .ensures) ∙ after-board (a .rings) (a .position) (s .pre .1 .0) (a .number) (s .pre .1 .1 .1)
-
-count-requires : tie.Need-count-requires
-count-requires c κs = search needs
-
-cast-opponent : tie.Need-cast-opponent
-cast-opponent c = search needs
-
-after-ply-requires : tie.Need-after-ply-requires
-after-ply-requires c κs = search needs
-
-entry-after-requires : tie.Need-entry-after-requires
-entry-after-requires c κs =
-    let s = c .before .before .before in
-    let a = s .args in
-    let l = after-leads (a .rings) (a .position) (s .pre .1 .0) (a .number) (s .pre .1 .1 .1) in (
-      s .pre .0,
-      (
-        subst (Placed (a .rings)) (sym (c .after-ply .ensures)) (after-placed (a .rings) (a .position) (s .pre .1 .0) (a .number) (s .pre .1 .1 .1)),
-        (
-          rw (reached c, stones (c .before)) (left-of l),
-          rw (reached c, stones (c .before), l .opponent) (s .pre .1 .1 .0),
-        ),
-      ),
-    )
+entry-after-move-requires : tie.Need-entry-after-move-requires
+entry-after-move-requires c κs = search needs
 
 asked-requires : tie.Need-asked-requires
 asked-requires c κs = search needs
@@ -58,20 +14,8 @@ asked-requires c κs = search needs
 returns : tie.Need-returns
 returns c =
     let e = c .before in
-    let m = e .before in
-    let s = m .before .before .before in
-    let q = s .args .question in
-    c .asked .ensures
-    ∙ ap (asked (q .low) (q .high)) (e .entry-after .ensures
-    ∙ ap₂ (probe (s .args .tablebase .now) (q .same) (q .fewer)) (stones (m .before)) (reached m))
+    let q = e .before .before .args .question in
+    c .asked .ensures ∙ ap (asked (q .low) (q .high)) (e .entry-after-move .ensures)
 
 pub leads-spec : {M : Type 1} → statement M
-leads-spec =
-    tie.close
-    (tie.spec
-    count-requires
-    cast-opponent
-    after-ply-requires
-    entry-after-requires
-    asked-requires
-    returns)
+leads-spec = tie.close (tie.spec entry-after-move-requires asked-requires returns)

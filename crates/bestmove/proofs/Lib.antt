@@ -1,0 +1,5 @@
+pub mod Choice
+pub mod FirstGreatest
+pub mod MoveEntries
+pub mod Running
+pub mod Worths

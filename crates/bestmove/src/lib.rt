@@ -1,0 +1,156 @@
+// The best move of a position by the entries of its successors.
+ghost use mathlib.Core.Path.{_≡_};
+ghost use mathlib.Core.Bool.{true, false};
+ghost use mathlib.Core.List.{map};
+ghost use Prim.Native.Nat.{_*_, _≤_};
+ghost use lib.Dec.{eqb, ltb};
+ghost use lib.ListN.{length};
+ghost use Rattle.lists.specs.Lists.{any, member};
+ghost use Rattle.board.specs.Board.{count, boardOf};
+ghost use Rattle.sizes.specs.Binomial.{BinomialTable};
+ghost use Rattle.rules.specs.Ply.{removable, listedMoves, successors};
+ghost use Rattle.game.specs.Game.{voidEntry};
+ghost use Rattle.plies.specs.Masks.{NeighbourMasks, MillMasks};
+ghost use Rattle.plies.specs.Positions.{Placed};
+ghost use Rattle.probing.specs.Probes.{probe, Reads};
+ghost use Rattle.bestmove.specs.Best.{bestEntry, bestMove, entryBy, worth};
+
+// Entries below are depths.
+const VOID: u32 = 65534;
+
+// The entry of a draw, and its worth.
+const DRAW: u32 = 65535;
+
+// No position has more moves.
+const MOVES_MAX: usize = 324;
+
+// A move, and the entry of the successor that it leads to.
+pub struct Best {
+    pub number: u16,
+    pub entry: u16,
+}
+
+// What a move to an entry is worth.
+fn worth(entry: u16) -> u32
+    ensures { λ r. ⌜ r ≡ worth entry ⌝ }
+{
+    let e = entry as u32;
+    if VOID <= e {
+        return DRAW;
+    }
+    let nearness = VOID - e;
+    if e % 2 == 1 {
+        return DRAW - nearness;
+    }
+    DRAW + nearness
+}
+
+// Of two moves the first, unless the second is better.
+fn better(first: Best, second: Best) -> Best
+    ensures { λ r. ⌜ r ≡ elim (ltb (worth (first .entry)) (worth (second .entry))) [ true ↦ second | false ↦ first ] ⌝ }
+{
+    if worth(first.entry) < worth(second.entry) {
+        return second;
+    }
+    first
+}
+
+// A listed move with the entry that it leads to.
+fn with_entry(
+    tablebase: &[u16],
+    binomials: &[u32; 625],
+    rings: usize,
+    same: usize,
+    fewer: usize,
+    position: board::Position,
+    number: u16,
+) -> Best
+    requires { ⌜ BinomialTable (now binomials) ⌝ }
+    requires { ⌜ Placed rings position ⌝ }
+    requires { ⌜ Reads (length (now tablebase)) (8 * rings) (count 1 (boardOf (8 * rings) position)) (count 2 (boardOf (8 * rings) position)) same fewer ⌝ }
+    requires { ⌜ member number (listedMoves rings (boardOf (8 * rings) position)) ≡ true ⌝ }
+    ensures { λ r. ⌜ (r .number ≡ number) × (r .entry ≡ entryBy (now (tablebase .entry)) same fewer (boardOf (8 * rings) position) number) ⌝ }
+{
+    Best {
+        number: number,
+        entry: probing::entry_after_move(
+            tablebase,
+            binomials,
+            rings,
+            same,
+            fewer,
+            position,
+            number as usize,
+        ),
+    }
+}
+
+// The best of a position's moves, given as their list.
+fn best_of(
+    tablebase: &[u16],
+    binomials: &[u32; 625],
+    rings: usize,
+    same: usize,
+    fewer: usize,
+    position: board::Position,
+    moves: &[u16],
+) -> Best
+    requires { ⌜ BinomialTable (now binomials) ⌝ }
+    requires { ⌜ Placed rings position ⌝ }
+    requires { ⌜ Reads (length (now tablebase)) (8 * rings) (count 1 (boardOf (8 * rings) position)) (count 2 (boardOf (8 * rings) position)) same fewer ⌝ }
+    requires { ⌜ any (λ b. eqb (probe (now tablebase) same fewer (count 2 (boardOf (8 * rings) position)) b) voidEntry)
+        (successors (λ n c. removable n c) rings (boardOf (8 * rings) position)) ≡ false ⌝ }
+    requires { ⌜ (1 ≤ length (now moves)) × (now moves ≡ listedMoves rings (boardOf (8 * rings) position)) ⌝ }
+    ensures number { λ r. ⌜ r .number ≡ bestMove (λ m. entryBy (now (tablebase .entry)) same fewer (boardOf (8 * rings) position) m)
+        (listedMoves rings (boardOf (8 * rings) position)) ⌝ }
+    ensures entry { λ r. ⌜ r .entry ≡ bestEntry (map (λ m. entryBy (now (tablebase .entry)) same fewer (boardOf (8 * rings) position) m)
+        (listedMoves rings (boardOf (8 * rings) position))) ⌝ }
+{
+    let mut best = with_entry(tablebase, binomials, rings, same, fewer, position, moves[0]);
+    let mut i = 1;
+    while i < moves.len() {
+        let next = with_entry(tablebase, binomials, rings, same, fewer, position, moves[i]);
+        best = better(best, next);
+        i += 1;
+    }
+    best
+}
+
+// The best move of a position that has a move and no successor whose entry is void.
+pub fn best_move(
+    tablebase: &[u16],
+    binomials: &[u32; 625],
+    near: &[u32; 24],
+    mills: &[u32; 48],
+    rings: usize,
+    same: usize,
+    fewer: usize,
+    position: board::Position,
+) -> Best
+    requires { ⌜ BinomialTable (now binomials) ⌝ }
+    requires { ⌜ NeighbourMasks rings (now near) ⌝ }
+    requires { ⌜ MillMasks rings (now mills) ⌝ }
+    requires { ⌜ Placed rings position ⌝ }
+    requires { ⌜ Reads (length (now tablebase)) (8 * rings) (count 1 (boardOf (8 * rings) position)) (count 2 (boardOf (8 * rings) position)) same fewer ⌝ }
+    requires { ⌜ any (λ b. eqb (probe (now tablebase) same fewer (count 2 (boardOf (8 * rings) position)) b) voidEntry)
+        (successors (λ n c. removable n c) rings (boardOf (8 * rings) position)) ≡ false ⌝ }
+    requires { ⌜ 1 ≤ length (listedMoves rings (boardOf (8 * rings) position)) ⌝ }
+    requires { ⌜ (count 1 (boardOf (8 * rings) position) ≤ 9) × (1 ≤ count 2 (boardOf (8 * rings) position)) × (count 2 (boardOf (8 * rings) position) ≤ 9) ⌝ }
+    ensures number { λ r. ⌜ r .number ≡ bestMove (λ m. entryBy (now (tablebase .entry)) same fewer (boardOf (8 * rings) position) m)
+        (listedMoves rings (boardOf (8 * rings) position)) ⌝ }
+    ensures entry { λ r. ⌜ r .entry ≡ bestEntry (map (λ m. entryBy (now (tablebase .entry)) same fewer (boardOf (8 * rings) position) m)
+        (listedMoves rings (boardOf (8 * rings) position))) ⌝ }
+{
+    let mut list = [0u16; MOVES_MAX];
+    plies::list_moves(rings, near, mills, position, &mut list);
+    let count = plies::count_moves(rings, near, mills, position);
+    best_of(
+        tablebase,
+        binomials,
+        rings,
+        same,
+        fewer,
+        position,
+        &list[..count],
+    )
+}

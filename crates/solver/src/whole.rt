@@ -1,0 +1,53 @@
+// A pair by its counts, and a whole tablebase pair by pair, the smaller pairs first.
+ghost use mathlib.Core.Path.{_≡_};
+ghost use Prim.Native.Nat.{_*_, _≤_, _<_};
+ghost use lib.ListN.{length};
+ghost use Rattle.sizes.specs.Binomial.{BinomialTable};
+ghost use Rattle.layout.specs.Layout.{tablebaseLength};
+ghost use Rattle.plies.specs.Masks.{NeighbourMasks, MillMasks};
+ghost use Rattle.game.specs.Game.{voidEntry};
+ghost use Rattle.outcomes.specs.Places.{lowerVoid};
+ghost use Rattle.outcomes.specs.Pair.{Pair, LowerValid};
+ghost use Rattle.solver.specs.Solve.{PairFill};
+use super::pairs;
+use super::tables;
+
+// Whether an entry is void in the lower tables of the pair (m, o) and (o, m).
+pub fn lower_void(tablebase: &[u16], binomials: &[u32; 625], rings: usize, k: usize, m: usize, o: usize) -> bool
+    requires { ⌜ BinomialTable (now binomials) ⌝ }
+    requires { ⌜ Pair rings k m o × (k ≤ 9) × (length (now tablebase) ≡ tablebaseLength (8 * rings) k) ⌝ }
+    ensures { λ r. ⌜ r ≡ lowerVoid rings k (now (tablebase .entry)) m o ⌝ }
+{
+    let first = tables::table_of(binomials, 8 * rings, k, m, o);
+    let second = tables::table_of(binomials, 8 * rings, k, o, m);
+    let one = first.lower;
+    let two = second.lower;
+    parts::void_within(tablebase, one.start, one.end)
+        | parts::void_within(tablebase, two.start, two.end)
+}
+
+// Fills the pair (m, o) and (o, m), or answers that some position is too deep and leaves both tables void.
+pub fn solve_pair(
+    tablebase: &mut [u16],
+    binomials: &[u32; 625],
+    near: &[u32; 24],
+    mills: &[u32; 48],
+    rings: usize,
+    k: usize,
+    m: usize,
+    o: usize,
+    limit: u16,
+) -> bool
+    requires { ⌜ BinomialTable (now binomials) ⌝ }
+    requires { ⌜ NeighbourMasks rings (now near) ⌝ }
+    requires { ⌜ MillMasks rings (now mills) ⌝ }
+    requires { ⌜ Pair rings k m o × (k ≤ 9) × (length (now tablebase) ≡ tablebaseLength (8 * rings) k) ⌝ }
+    requires { ⌜ LowerValid rings k m o (now tablebase) × (limit < voidEntry) ⌝ }
+    ensures { λ deep. ⌜ PairFill rings k m o limit (now (tablebase .entry)) (now (tablebase .exit)) deep ⌝ }
+{
+    let first = tables::table_of(binomials, 8 * rings, k, m, o);
+    let second = tables::table_of(binomials, 8 * rings, k, o, m);
+    pairs::solve_tables(
+        tablebase, binomials, near, mills, rings, k, first, second, limit,
+    )
+}
