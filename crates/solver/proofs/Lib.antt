@@ -6,3 +6,4 @@ pub mod NextLevel
 pub mod AtRank
 pub mod PairSteps
 pub mod Answered
+pub mod LowerVoid
