@@ -4,3 +4,4 @@ pub mod PairGame
 pub mod Entries
 pub mod Unique
 pub mod PairLevels
+pub mod PairTrue
