@@ -64,6 +64,13 @@ test-both m o x y e = go (eqb x m && eqb y o) refl e
     go true f h = inl (eqb-true x m (and-left _ _ f), eqb-true y o (and-right (eqb x m) _ f))
     go false f h = inr (eqb-true x o (and-left _ _ h), eqb-true y m (and-right (eqb x o) _ h))
 
+pub both-or-not : (m o x y : ℕ) → BothTables m o x y ⊎ (BothTables m o x y → ⊥)
+both-or-not m o x y = go ((eqb x m && eqb y o) || (eqb x o && eqb y m)) refl
+  where
+    go : (a : Bool) → ((eqb x m && eqb y o) || (eqb x o && eqb y m)) ≡ a → BothTables m o x y ⊎ (BothTables m o x y → ⊥)
+    go true e = inl (test-both m o x y e)
+    go false e = inr (λ t. clash (both-test m o x y t) e)
+
 pub in-pair : {rings m o : ℕ} {b : List ℕ} → InPair rings m o b → inPair m o b ≡ true
 unfolding inPair
 in-pair {rings} {m} {o} {b} i = both-test m o (count 1 b) (count 2 b) (i .counts)
