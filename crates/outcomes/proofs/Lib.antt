@@ -5,3 +5,5 @@ pub mod Entries
 pub mod Unique
 pub mod PairLevels
 pub mod PairTrue
+pub mod TrueTables
+pub mod Order

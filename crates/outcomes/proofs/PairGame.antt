@@ -149,7 +149,8 @@ module _ (rings k m o : ℕ) (pair : Pair rings k m o) where
   pair-closed b i c h =
       let a = successor-of (λ n x. removable n x) rings b c h in
       subst (λ (x : List ℕ). OnPair rings m o x) (sym (a .2))
-      (lands (afterPly b (a .0)) (removedOf (a .0)) (ply-leads (λ n x. removable n x) removable-takes rings (pair .small) b (i .values) (i .points) (a .0) (a .1)))
+      (lands (afterPly b (a .0)) (removedOf (a .0))
+      (ply-leads (λ n x. removable n x) removable-takes rings (pair .small) b (i .values) (i .points) (a .0) (a .1)))
     where
       side : (x y : ℕ) → y ≡ count 1 b → (x ≡ count 2 b) ⊎ (suc x ≡ count 2 b) → BothTables m o (count 1 b) (count 2 b) → Counts m o x y
       side x y e (inl f) (inl q) = own (inr (f ∙ q .1, e ∙ q .0))
