@@ -10,9 +10,10 @@ use lib.Dec.{eqb, ltb}
 use borrow.Author.Tests.{ltb-true, eqb-true, lt-ltb, eq-eqb}
 use Rattle.lists.specs.Lists.{any, all}
 use Rattle.lists.proofs.Tests.{clash, untrue, and-left, and-right, and-both, or-cases, or-left, or-right, any-member, all-member, any-none, all-fails}
-use Rattle.game.specs.Game.{Seed, won, lost, WonIn, LostIn, Depth, Entry, voidEntry}
+use Rattle.game.specs.Game.{Seed, won, lost, ended, WonIn, LostIn, Depth, Entry, voidEntry}
 use Rattle.game.specs.Judgement.{isLost, isWon, decided}
-use Rattle.game.proofs.Within.{never-both, neither-won, neither-lost}
+use Rattle.game.proofs.Least.{mono-le}
+use Rattle.game.proofs.Within.{ended-mono, never-both, neither-won, neither-lost}
 use Rattle.game.proofs.Depths.{depth-unique, depth-cases, depth-odd, depth-even, won-odd, lost-even}
 
 pub lost-is : {e : ℕ} → isLost e ≡ true → (e % 2 ≡ 0) × (e < voidEntry)
@@ -45,6 +46,11 @@ module _ {Pos : Type 0} (next : Pos → List Pos) (seed : Pos → Seed) (p : Pos
   pub depth-entry : {k : ℕ} → Entry next seed p e → Depth next seed k p → (e ≡ k) × (e < voidEntry)
   depth-entry (inl a) d = (depth-unique next seed p (a .1) d, a .0)
   depth-entry {k} (inr a) d = clash (d .holds) (a .1 k)
+
+  -- a forced end comes within fewer plies than the number that says void
+  pub entry-ended : Entry next seed p e → (n : ℕ) → ended next seed n p ≡ true → ended next seed voidEntry p ≡ true
+  entry-ended (inl a) n h = mono-le _ (ended-mono next seed p) (omega (arith, a .0)) (a .1 .holds)
+  entry-ended (inr a) n h = clash h (a .1 n)
 
   pub entry-lost : Entry next seed p e → isLost e ≡ true → LostIn next seed e p
   entry-lost a h = let s = lost-is h in depth-even next seed p (entry-depth a (s .1)) (s .0)

@@ -24,6 +24,10 @@ module _ (rings k : ℕ) (tablebase b : List ℕ) where
   unfolding entryAt
   entry-place = refl
 
+  pub entry-rank : getD tablebase (start (8 * rings) k (count 1 b) (count 2 b) + rank b) 0 ≡ entryAt rings k tablebase b
+  unfolding entryAt place
+  entry-rank = refl
+
   pub entry-two : count 1 b < 3 → successorEntry rings k tablebase b ≡ 0
   unfolding successorEntry
   entry-two h = rw (lt-ltb (count 1 b) 3 h, successorEntry)

@@ -5,3 +5,6 @@ pub mod Entries
 pub mod Unique
 pub mod PairLevels
 pub mod Voids
+pub mod PairTrue
+pub mod TrueTables
+pub mod Order

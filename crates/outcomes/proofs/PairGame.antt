@@ -8,7 +8,7 @@ use native.Mathlib.Omega.{arith}
 use lib.Dec.{eqb, ltb}
 use lib.ListN.{length}
 use borrow.Author.Tests.{ltb-true, ltb-false, lt-ltb, le-ltb, eqb-true, eqb-false, eq-eqb, ne-eqb}
-use Rattle.lists.proofs.Tests.{and-left, and-right}
+use Rattle.lists.proofs.Tests.{and-left, and-right, clash}
 use Rattle.board.specs.Board.{Values, count}
 use Rattle.layout.proofs.OneToOne.{InRange}
 use Rattle.rules.specs.Ply.{removable, afterPly, removedOf}
@@ -17,7 +17,7 @@ use Rattle.rules.proofs.Leads.{Leads, MoverLeft, ply-leads}
 use Rattle.game.specs.Game.{live, ends, drawn, drawEntry}
 use Rattle.outcomes.specs.Places.{entryAt}
 use Rattle.outcomes.specs.Whole.{next}
-use Rattle.outcomes.specs.Pair.{Pair, inPair, given, pairSeed}
+use Rattle.outcomes.specs.Pair.{Pair, inPair, given, pairSeed, LowerTables}
 use Rattle.outcomes.specs.Filled.{BothTables}
 use Rattle.outcomes.proofs.Boards.{InTables}
 use Rattle.outcomes.proofs.Ranked.{InTable, in-tables}
@@ -64,6 +64,13 @@ test-both m o x y e = go (eqb x m && eqb y o) refl e
     go true f h = inl (eqb-true x m (and-left _ _ f), eqb-true y o (and-right (eqb x m) _ f))
     go false f h = inr (eqb-true x o (and-left _ _ h), eqb-true y m (and-right (eqb x o) _ h))
 
+pub both-or-not : (m o x y : ℕ) → BothTables m o x y ⊎ (BothTables m o x y → ⊥)
+both-or-not m o x y = go ((eqb x m && eqb y o) || (eqb x o && eqb y m)) refl
+  where
+    go : (a : Bool) → ((eqb x m && eqb y o) || (eqb x o && eqb y m)) ≡ a → BothTables m o x y ⊎ (BothTables m o x y → ⊥)
+    go true e = inl (test-both m o x y e)
+    go false e = inr (λ t. clash (both-test m o x y t) e)
+
 pub in-pair : {rings m o : ℕ} {b : List ℕ} → InPair rings m o b → inPair m o b ≡ true
 unfolding inPair
 in-pair {rings} {m} {o} {b} i = both-test m o (count 1 b) (count 2 b) (i .counts)
@@ -71,6 +78,25 @@ in-pair {rings} {m} {o} {b} i = both-test m o (count 1 b) (count 2 b) (i .counts
 pub pair-in : {rings m o : ℕ} {b : List ℕ} → OnPair rings m o b → inPair m o b ≡ true → InPair rings m o b
 unfolding inPair
 pair-in {rings} {m} {o} {b} p e = record { values = p .values; points = p .points; counts = test-both m o (count 1 b) (count 2 b) e }
+
+-- a board that the pair's plies reach: of the pair, of a mover left with two stones, or of a lower table
+pub data Reached (rings m o : ℕ) (b : List ℕ) : Type 0 where
+  of-pair : InPair rings m o b → Reached rings m o b
+  two-left : inPair m o b ≡ false → count 1 b < 3 → Reached rings m o b
+  below : inPair m o b ≡ false → LowerTables m o (count 1 b) (count 2 b) → Reached rings m o b
+
+pub reached : {rings m o : ℕ} (b : List ℕ) → OnPair rings m o b → Reached rings m o b
+reached {rings} {m} {o} b s = go (inPair m o b) refl (ltb (count 1 b) 3) refl
+  where
+    lies : inPair m o b ≡ false → 3 ≤ count 1 b → Counts m o (count 1 b) (count 2 b) → LowerTables m o (count 1 b) (count 2 b)
+    lies f l (own t) = clash (in-pair {rings = rings} record { values = s .values; points = s .points; counts = t }) f
+    lies f l (lower e g) = (l, inl (e, g))
+    lies f l (lower-turned e g) = (l, inr (e, g))
+
+    go : (a : Bool) → inPair m o b ≡ a → (c : Bool) → ltb (count 1 b) 3 ≡ c → Reached rings m o b
+    go true f c g = of-pair (pair-in s f)
+    go false f true g = two-left f (ltb-true (count 1 b) 3 g)
+    go false f false g = below f (lies f (ltb-false (count 1 b) 3 g) (s .counts))
 
 -- an entry as a given ending
 pub given-draw : (e : ℕ) → e ≡ drawEntry → given e ≡ drawn
@@ -123,7 +149,8 @@ module _ (rings k m o : ℕ) (pair : Pair rings k m o) where
   pair-closed b i c h =
       let a = successor-of (λ n x. removable n x) rings b c h in
       subst (λ (x : List ℕ). OnPair rings m o x) (sym (a .2))
-      (lands (afterPly b (a .0)) (removedOf (a .0)) (ply-leads (λ n x. removable n x) removable-takes rings (pair .small) b (i .values) (i .points) (a .0) (a .1)))
+      (lands (afterPly b (a .0)) (removedOf (a .0))
+      (ply-leads (λ n x. removable n x) removable-takes rings (pair .small) b (i .values) (i .points) (a .0) (a .1)))
     where
       side : (x y : ℕ) → y ≡ count 1 b → (x ≡ count 2 b) ⊎ (suc x ≡ count 2 b) → BothTables m o (count 1 b) (count 2 b) → Counts m o x y
       side x y e (inl f) (inl q) = own (inr (f ∙ q .1, e ∙ q .0))

@@ -1,14 +1,14 @@
 -- A pair's tables as a table of entries in the sense of the game: what is given of the lower tables stands there, and a visit to a board writes its
 -- place only. Assumes nothing.
 use mathlib.Core.Path.{_≡_, refl, sym, ap, subst, _∙_}
-use mathlib.Core.Bool.{Bool, true, false, _&&_, true≢false}
+use mathlib.Core.Bool.{Bool, true, false, _&&_}
 use mathlib.Core.List.{List}
 use mathlib.Core.Logic.{_⊎_, inl, inr}
 use Prim.Native.Nat.{ℕ, _*_, _≤_, _<_}
 use native.Mathlib.Decide.{ℕ-discrete}
 use native.Mathlib.Omega.{arith}
 use lib.Dec.{eqb, ltb}
-use lib.ListN.{length, getD, set}
+use lib.ListN.{length, set}
 use borrow.Author.Tests.{ltb-true, ltb-false, eqb-true, eqb-false}
 use Rattle.board.specs.Board.{count}
 use Rattle.ranking.specs.Rank.{rank}
@@ -23,9 +23,10 @@ use Rattle.outcomes.specs.Whole.{next}
 use Rattle.outcomes.specs.Pair.{Pair, inPair, given, pairSeed, LowerTables, LowerValid}
 use Rattle.outcomes.specs.Filled.{BothTables, Kept}
 use Rattle.outcomes.proofs.Boards.{InTables, place-within}
-use Rattle.outcomes.proofs.Ranked.{own-table, place-at, rank-in, one-board}
-use Rattle.outcomes.proofs.PairGame.{Counts, own, lower, lower-turned, OnPair, InPair, in-pair, pair-in, given-draw, given-ends, seed-in, seed-two, seed-given, stands, three-own, stands-own, pair-closed, live-in}
-use Rattle.outcomes.proofs.Entries.{entry-place, entry-two, entry-three, written-here, written-elsewhere, kept-lower}
+use Rattle.outcomes.proofs.Ranked.{own-table, rank-in, one-board}
+use Rattle.outcomes.proofs.PairGame.{OnPair, InPair, in-pair, pair-in, Reached, of-pair, two-left, below, reached, given-draw, given-ends}
+use Rattle.outcomes.proofs.PairGame.{seed-in, seed-two, seed-given, stands, three-own, stands-own, pair-closed, live-in}
+use Rattle.outcomes.proofs.Entries.{entry-rank, entry-two, entry-three, written-here, written-elsewhere, kept-lower}
 
 -- a depth or a draw, and not void
 abbrev pub Valid : ℕ → Type 0
@@ -50,36 +51,13 @@ given-is e (inr q) = inr (given-draw e q, q)
 
 module _ (rings k m o : ℕ) (pair : Pair rings k m o) (before : List ℕ) (lower-valid : LowerValid rings k m o before) where
   -- a board of a lower table
-  valid : (b : List ℕ) → OnPair rings m o b → inPair m o b ≡ false → 3 ≤ count 1 b → Valid (entryAt rings k before b)
-  valid b s f l = at (of (s .counts))
-    where
-      of : Counts m o (count 1 b) (count 2 b) → LowerTables m o (count 1 b) (count 2 b)
-      of (own t) = absurd (true≢false (sym (in-pair {rings = rings} record { values = s .values; points = s .points; counts = t }) ∙ f))
-      of (lower e g) = (l, inl (e, g))
-      of (lower-turned e g) = (l, inr (e, g))
-
-      at : LowerTables m o (count 1 b) (count 2 b) → Valid (entryAt rings k before b)
-      at t =
-          let w = own-table rings k b (stands rings k m o pair b s l) in
-          subst Valid (ap (λ (j : ℕ). getD before j 0) (sym (place-at rings k (count 1 b) (count 2 b) b w)) ∙ sym (entry-place rings k before b))
-          (lower-valid (count 1 b) (count 2 b) (rank b) t (rank-in rings (count 1 b) (count 2 b) b w))
+  valid : (b : List ℕ) → OnPair rings m o b → LowerTables m o (count 1 b) (count 2 b) → Valid (entryAt rings k before b)
+  valid b s t =
+      subst Valid (entry-rank rings k before b)
+      (lower-valid (count 1 b) (count 2 b) (rank b) t (rank-in rings (count 1 b) (count 2 b) b (own-table rings k b (stands rings k m o pair b s (t .0)))))
 
   abbrev seed : List ℕ → Seed
   seed b = pairSeed rings k m o before b
-
-  -- what a board of the lower tables, or one whose mover has two stones, is given
-  data Known (b : List ℕ) : Type 0 where
-    of-pair : InPair rings m o b → Known b
-    two-left : inPair m o b ≡ false → count 1 b < 3 → Known b
-    below : inPair m o b ≡ false → 3 ≤ count 1 b → Known b
-
-  known : (b : List ℕ) → OnPair rings m o b → Known b
-  known b s = go (inPair m o b) refl (ltb (count 1 b) 3) refl
-    where
-      go : (a : Bool) → inPair m o b ≡ a → (c : Bool) → ltb (count 1 b) 3 ≡ c → Known b
-      go true f c g = of-pair (pair-in s f)
-      go false f true g = two-left f (ltb-true (count 1 b) 3 g)
-      go false f false g = below f (ltb-false (count 1 b) 3 g)
 
   pub pair-live : (b : List ℕ) → InPair rings m o b → pairSeed rings k m o before b ≡ live
   pair-live b i = seed-in rings k m o before b (in-pair i)
@@ -88,15 +66,15 @@ module _ (rings k m o : ℕ) (pair : Pair rings k m o) (before : List ℕ) (lowe
   live-pair b s e = pair-in s (live-in rings k m o pair before b e)
 
   pub pair-ground : Ground (next rings) (λ b. pairSeed rings k m o before b) (OnPair rings m o)
-  pair-ground = record { closed = λ p s e q h. pair-closed rings k m o pair p (live-pair p s e) q h; given-low = λ q s e. low q s e (known q s) }
+  pair-ground = record { closed = λ p s e q h. pair-closed rings k m o pair p (live-pair p s e) q h; given-low = λ q s e. low q s e (reached q s) }
     where
-      low : (q : List ℕ) {d : ℕ} → OnPair rings m o q → seed q ≡ ends d → Known q → d < voidEntry
+      low : (q : List ℕ) {d : ℕ} → OnPair rings m o q → seed q ≡ ends d → Reached rings m o q → d < voidEntry
       low q s e (of-pair i) = live-ends (sym (pair-live q i) ∙ e)
       low q {d} s e (two-left f l) = let z : 0 ≡ d = ends-same (sym (seed-two rings k m o before q f l) ∙ e) in omega arith
-      low q {d} s e (below f l) = go (given-is (entryAt rings k before q) (valid q s f l))
+      low q {d} s e (below f t) = go (given-is (entryAt rings k before q) (valid q s t))
         where
           x : given (entryAt rings k before q) ≡ ends d
-          x = sym (seed-given rings k m o before q f l) ∙ e
+          x = sym (seed-given rings k m o before q f (t .0)) ∙ e
 
           go : ((given (entryAt rings k before q) ≡ ends (entryAt rings k before q)) × (entryAt rings k before q < voidEntry))
               ⊎ ((given (entryAt rings k before q) ≡ drawn) × (entryAt rings k before q ≡ drawEntry)) → d < voidEntry
@@ -109,30 +87,30 @@ module _ (rings k m o : ℕ) (pair : Pair rings k m o) (before : List ℕ) (lowe
     lower-entry q s f l = entry-three rings k now q l ∙ kept-lower rings k m o pair before now kept q s f l
 
     pub pair-seeded : Seeded (next rings) (λ b. pairSeed rings k m o before b) (OnPair rings m o) (λ b. successorEntry rings k now b)
-    pair-seeded = record { at-end = λ q s e. end q s e (known q s); at-draw = λ q s e. draw q s e (known q s) }
+    pair-seeded = record { at-end = λ q s e. end q s e (reached q s); at-draw = λ q s e. draw q s e (reached q s) }
       where
-        end : (q : List ℕ) {d : ℕ} → OnPair rings m o q → seed q ≡ ends d → Known q → successorEntry rings k now q ≡ d
+        end : (q : List ℕ) {d : ℕ} → OnPair rings m o q → seed q ≡ ends d → Reached rings m o q → successorEntry rings k now q ≡ d
         end q s e (of-pair i) = live-ends (sym (pair-live q i) ∙ e)
         end q s e (two-left f l) = entry-two rings k now q l ∙ ends-same (sym (seed-two rings k m o before q f l) ∙ e)
-        end q {d} s e (below f l) = go (given-is (entryAt rings k before q) (valid q s f l))
+        end q {d} s e (below f t) = go (given-is (entryAt rings k before q) (valid q s t))
           where
             x : given (entryAt rings k before q) ≡ ends d
-            x = sym (seed-given rings k m o before q f l) ∙ e
+            x = sym (seed-given rings k m o before q f (t .0)) ∙ e
 
             go : ((given (entryAt rings k before q) ≡ ends (entryAt rings k before q)) × (entryAt rings k before q < voidEntry))
                 ⊎ ((given (entryAt rings k before q) ≡ drawn) × (entryAt rings k before q ≡ drawEntry)) → successorEntry rings k now q ≡ d
-            go (inl y) = lower-entry q s f l ∙ ends-same (sym (y .0) ∙ x)
+            go (inl y) = lower-entry q s f (t .0) ∙ ends-same (sym (y .0) ∙ x)
             go (inr y) = drawn-ends (sym (y .0) ∙ x)
 
-        draw : (q : List ℕ) → OnPair rings m o q → seed q ≡ drawn → Known q → successorEntry rings k now q ≡ drawEntry
+        draw : (q : List ℕ) → OnPair rings m o q → seed q ≡ drawn → Reached rings m o q → successorEntry rings k now q ≡ drawEntry
         draw q s e (of-pair i) = live-drawn (sym (pair-live q i) ∙ e)
         draw q s e (two-left f l) = drawn-ends (sym e ∙ seed-two rings k m o before q f l)
-        draw q s e (below f l) = go (given-is (entryAt rings k before q) (valid q s f l))
+        draw q s e (below f t) = go (given-is (entryAt rings k before q) (valid q s t))
           where
             go : ((given (entryAt rings k before q) ≡ ends (entryAt rings k before q)) × (entryAt rings k before q < voidEntry))
                 ⊎ ((given (entryAt rings k before q) ≡ drawn) × (entryAt rings k before q ≡ drawEntry)) → successorEntry rings k now q ≡ drawEntry
-            go (inl y) = drawn-ends (sym e ∙ seed-given rings k m o before q f l ∙ y .0)
-            go (inr y) = lower-entry q s f l ∙ y .1
+            go (inl y) = drawn-ends (sym e ∙ seed-given rings k m o before q f (t .0) ∙ y .0)
+            go (inr y) = lower-entry q s f (t .0) ∙ y .1
 
   -- an entry of the pair, as its successors see it
   pub pair-entry : (now b : List ℕ) → InPair rings m o b → successorEntry rings k now b ≡ entryAt rings k now b

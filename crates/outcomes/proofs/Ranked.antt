@@ -1,6 +1,6 @@
 -- Boards of a tablebase and its places: the board of a rank stands at that rank's place in its table, each board of the tablebase at a place of
 -- its own. Assumes nothing.
-use mathlib.Core.Path.{_≡_, refl, sym, ap, subst, _∙_}
+use mathlib.Core.Path.{_≡_, refl, sym, ap, subst, subst₂, _∙_}
 use mathlib.Core.List.{List}
 use Prim.Native.Nat.{ℕ, _+_, _*_, _<_}
 use lib.ListN.{length}
@@ -33,7 +33,8 @@ place-at rings k x y b w = rw (w .mover, w .opponent)
 
 pub place-unrank : (rings k x y r : ℕ) → r < size (8 * rings) x y → place rings k (unrank (8 * rings) x y r) ≡ start (8 * rings) k x y + r
 place-unrank rings k x y r h =
-    place-at rings k x y (unrank (8 * rings) x y r) (unrank-in rings x y r h) ∙ ap (λ (s : ℕ). start (8 * rings) k x y + s) (rank-unrank (8 * rings) x y r h .rank-is)
+    place-at rings k x y (unrank (8 * rings) x y r) (unrank-in rings x y r h)
+    ∙ ap (λ (s : ℕ). start (8 * rings) k x y + s) (rank-unrank (8 * rings) x y r h .rank-is)
 
 module _ (rings x y : ℕ) (b : List ℕ) (w : InTable rings x y b) where
   pub rank-in : rank b < size (8 * rings) x y
@@ -56,6 +57,11 @@ in-tables rings k b v e r = record {
         (rank-in rings (count 1 b) (count 2 b) b record { values = v; points = e; mover = refl; opponent = refl });
   };
 }
+
+pub unrank-stands : (rings k x y r : ℕ) → InRange k x y → r < size (8 * rings) x y → InTables rings k (unrank (8 * rings) x y r)
+unrank-stands rings k x y r w h =
+    let i = unrank-in rings x y r h in
+    in-tables rings k (unrank (8 * rings) x y r) (i .values) (i .points) (subst₂ (λ (a b : ℕ). InRange k a b) (sym (i .mover)) (sym (i .opponent)) w)
 
 module _ (rings k : ℕ) where
   pub own-table : (b : List ℕ) → InTables rings k b → InTable rings (count 1 b) (count 2 b) b

@@ -2,3 +2,4 @@ pub mod Whole
 pub mod Places
 pub mod Pair
 pub mod Filled
+pub mod Order

@@ -1,3 +1,11 @@
+-- `solver::whole::lower_void` meets its contract. Assumes nothing.
+use mathlib.Core.Path.{_≡_, refl, sym, ap, ap₂, subst, _∙_}
+use mathlib.Core.Bool.{Bool, _||_}
+use Rattle.outcomes.proofs.Voids.{lower-void}
+use Rattle.solver.proofs.Parts.{turned-pair}
+use Rattle.solver.proofs.NextLevel.{lower-room}
+use Rattle.solver.proofs.LowerVoid.{lower-part-void}
+use lib.ListN.{length}
 use borrow.Author.Needs.{needs}
 use Rattle.solver.proofs.whole.lower_void.Statement.{statement}
 use Rattle.solver.proofs.whole.lower_void.Tie as tie
@@ -6,33 +14,38 @@ use Rattle.solver.proofs.whole.lower_void.Lts as lts
 use Rattle.parts.proofs.void_within.Reads as void-within-reads
 use Rattle.solver.proofs.tables.table_of.Reads as table-of-reads
 
--- src/whole.rt:21:45
 mul-table-of : tie.Need-mul-table-of
 mul-table-of c = search needs
 
--- src/whole.rt:21:9
 table-of-requires : tie.Need-table-of-requires
 table-of-requires c κs = search needs
 
--- src/whole.rt:22:46
 mul-table-of-2 : tie.Need-mul-table-of-2
 mul-table-of-2 c = search needs
 
--- src/whole.rt:22:9
 table-of-requires-2 : tie.Need-table-of-requires-2
 table-of-requires-2 c κs = search needs
 
--- src/whole.rt:25:5
 void-within-requires : tie.Need-void-within-requires
-void-within-requires c κs = ?
+void-within-requires c κs =
+    let s = c .before .before .before .before .before in
+    lower-room (s .args .rings) (s .args .k) (s .args .m) (s .args .o) (c .before .before .before .table-of .result) (c .before .before .before .table-of .ensures) (s .pre .1 .0)
+    (length (s .args .tablebase .now)) (s .pre .1 .2)
 
--- src/whole.rt:26:11
 void-within-requires-2 : tie.Need-void-within-requires-2
-void-within-requires-2 c κs = ?
+void-within-requires-2 c κs =
+    let s = c .before .before .before .before .before .before in
+    lower-room (s .args .rings) (s .args .k) (s .args .o) (s .args .m) (c .before .before .before .table-of2 .result) (c .before .before .before .table-of2 .ensures) (turned-pair (s .pre .1 .0))
+    (length (s .args .tablebase .now)) (s .pre .1 .2)
 
--- src/whole.rt:16:1
 returns : tie.Need-returns
-returns c = ?
+returns c =
+    let s = c .before .before .before .before .before .before .before in
+    let a = s .args in
+    ap₂ (λ (x y : Bool). x || y)
+    (c .before .void-within .ensures ∙ lower-part-void (a .rings) (a .k) (a .m) (a .o) (c .before .before .before .before .before .table-of .result) (c .before .before .before .before .before .table-of .ensures) (s .pre .1 .0 .opponent-low) (a .tablebase .now))
+    (c .void-within2 .ensures ∙ lower-part-void (a .rings) (a .k) (a .o) (a .m) (c .before .before .before .before .table-of2 .result) (c .before .before .before .before .table-of2 .ensures) (s .pre .1 .0 .mover-low) (a .tablebase .now))
+    ∙ sym (lower-void (a .rings) (a .k) (a .tablebase .now) (a .m) (a .o))
 
 pub lower-void-spec : {M : Type 1} → statement M
 lower-void-spec =

@@ -1,0 +1,55 @@
+-- Pairs filled in order: rows m = 3, 4, .., and in a row o = 3, .., m, so that the lower tables of a pair are done before it. What is true of the
+-- tables done so far, and what it is for a tablebase to be filled pair by pair. Assumes nothing.
+use mathlib.Core.Path.{_≡_}
+use mathlib.Core.Bool.{true, false}
+use mathlib.Core.List.{List}
+use Prim.Native.Nat.{ℕ, _+_, _*_, _≤_, _<_}
+use lib.ListN.{getD}
+use Rattle.sizes.specs.Size.{size}
+use Rattle.ranking.specs.Unrank.{unrank}
+use Rattle.layout.specs.Layout.{start}
+use Rattle.game.specs.Game.{ended}
+use Rattle.outcomes.specs.Whole.{next, wholeSeed, TrueEntry}
+use Rattle.outcomes.specs.Pair.{Pair, pairSeed}
+use Rattle.outcomes.specs.Filled.{AllTables, BothTables, Filled}
+
+-- the tables of T hold, at the place of each rank, the true entry of the position of that rank
+abbrev pub TrueEntries : ℕ → ℕ → (ℕ → ℕ → Type 0) → List ℕ → Type 0
+TrueEntries rings k T tablebase = (x y r : ℕ) → T x y → r < size (8 * rings) x y
+    → TrueEntry rings (unrank (8 * rings) x y r) (getD tablebase (start (8 * rings) k x y + r) 0)
+
+-- none of their positions has a forced end beyond the limit
+abbrev pub WithinLimit : ℕ → ℕ → (ℕ → ℕ → Type 0) → Type 0
+WithinLimit rings limit T = (x y r : ℕ) → T x y → r < size (8 * rings) x y → (n : ℕ)
+    → ended (next rings) (λ c. wholeSeed c) n (unrank (8 * rings) x y r) ≡ true
+    → ended (next rings) (λ c. wholeSeed c) limit (unrank (8 * rings) x y r) ≡ true
+
+pub record TrueOn (rings k limit : ℕ) (T : ℕ → ℕ → Type 0) (tablebase : List ℕ) : Type 0 where
+  pub entries : TrueEntries rings k T tablebase
+  pub within : WithinLimit rings limit T
+
+-- some position of the whole tablebase has a forced end beyond the limit
+pub record Beyond (rings k limit : ℕ) : Type 0 where
+  pub mover : ℕ
+  pub opponent : ℕ
+  pub rank : ℕ
+  pub in-table : AllTables rings k mover opponent
+  pub rank-low : rank < size (8 * rings) mover opponent
+  pub plies : ℕ
+  pub forced : ended (next rings) (λ c. wholeSeed c) plies (unrank (8 * rings) mover opponent rank) ≡ true
+  pub beyond : ended (next rings) (λ c. wholeSeed c) limit (unrank (8 * rings) mover opponent rank) ≡ false
+
+-- the tables done before pair (m, o): those of earlier rows, and those of row m with fewer than o, either way round
+pub data Before (m o x y : ℕ) : Type 0 where
+  rows : 3 ≤ x → x < m → 3 ≤ y → y < m → Before m o x y
+  mine : x ≡ m → 3 ≤ y → y < o → Before m o x y
+  yours : 3 ≤ x → x < o → y ≡ m → Before m o x y
+
+-- a tablebase filled pair by pair, pair (m, o) being next: it begins as any tablebase, each pair is filled over the entries so far with a limit of its
+-- own, and a pair whose stones do not fit the points has no position to fill
+pub data InOrder (rings k : ℕ) : ℕ → ℕ → List ℕ → Type 0 where
+  at-first : (tablebase : List ℕ) → InOrder rings k 3 3 tablebase
+  one-pair : (m o limit : ℕ) (before after : List ℕ) → Pair rings k m o → o ≤ m → InOrder rings k m o before
+      → Filled rings k limit (BothTables m o) (λ b. pairSeed rings k m o before b) before after → InOrder rings k m (o + 1) after
+  no-room : (m o : ℕ) (tablebase : List ℕ) → 8 * rings < m + o → InOrder rings k m o tablebase → InOrder rings k m (o + 1) tablebase
+  next-row : (m : ℕ) (tablebase : List ℕ) → InOrder rings k m (m + 1) tablebase → InOrder rings k (m + 1) 3 tablebase
