@@ -14,9 +14,7 @@ ghost use Rattle.plies.specs.Masks.{NeighbourMasks, MillMasks};
 ghost use Rattle.plies.specs.Positions.{Placed};
 ghost use Rattle.probing.specs.Probes.{probe, Reads};
 ghost use Rattle.bestmove.specs.Best.{bestEntry, bestMove, entryBy, worth};
-
-// Entries below are depths.
-const VOID: u32 = 65534;
+use probing::VOID;
 
 // The entry of a draw, and its worth.
 const DRAW: u32 = 65535;

@@ -124,7 +124,7 @@ module _ {A : Type 0} where
       go true p q r = let e : g x ≡ false = q ∙ ap not p in rw (p, e, all, any) r
       go false p q r = let e : g x ≡ true = q ∙ ap not p in rw (p, e, all, any)
 
-  pub any-append : (f : A → Bool) (a b : List A) → any f (a ++ b) ≡ (any f a || any f b)
+  any-append : (f : A → Bool) (a b : List A) → any f (a ++ b) ≡ (any f a || any f b)
   any-append f [] b = refl
   any-append f (x ∷ a) b = go (f x) refl (any-append f a b)
     where

@@ -4,6 +4,7 @@ mod entries;
 mod judging;
 
 pub use asking::Question;
+pub use asking::VOID;
 pub use asking::some_successor;
 pub use entries::entry_after;
 pub use entries::entry_after_move;
