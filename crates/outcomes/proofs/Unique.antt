@@ -18,7 +18,7 @@ use Rattle.outcomes.specs.Filled.{AllTables, Filled, TooDeep}
 
 module _ (rings k : ℕ) (seed : List ℕ → Seed) where
   -- every table holds its entries
-  abbrev pub Entries : List ℕ → Type 0
+  abbrev Entries : List ℕ → Type 0
   Entries a = (x y r : ℕ) → AllTables rings k x y → r < size (8 * rings) x y
       → Entry (next rings) seed (unrank (8 * rings) x y r) (getD a (start (8 * rings) k x y + r) 0)
 
