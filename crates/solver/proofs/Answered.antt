@@ -113,8 +113,8 @@ module _ (rings k m o : ℕ) (a b : Table) (before : List ℕ) (s : Setting (len
             let d = sym (look x y r t same side h) ∙ g in
             let v = eqb-true (entryAt rings k now c) drawEntry (and-left _ _ d) in
             let far = beyond (next rings) (λ z. pairSeed rings k m o before z) (OnPair rings m o) (pair-ground rings k m o (s .pair) before valid) level low
-                (λ z. successorEntry rings k now z) (st .exact) c (on-pair i) (pair-live rings k m o (s .pair) before valid c i)
-                (pair-entry rings k m o (s .pair) before valid now c i ∙ v) (and-right (eqb (entryAt rings k now c) drawEntry) _ d) in
+            (λ z. successorEntry rings k now z) (st .exact) c (on-pair i) (pair-live rings k m o (s .pair) before valid c i)
+            (pair-entry rings k m o (s .pair) before valid now c i ∙ v) (and-right (eqb (entryAt rings k now c) drawEntry) _ d) in
             subst (TooDeep rings k limit (BothTables m o) (λ z. pairSeed rings k m o before z) before) (sym e) record {
               kept = kept-then rings k (BothTables m o) before now (pairFilled a b voidEntry now) (st .kept) (pair-kept rings k m o a b now here voidEntry);
               void = λ u w q t′ l. sym (entry-unrank rings k u w q (pairFilled a b voidEntry now) l)

@@ -5,4 +5,5 @@ mod tables;
 mod whole;
 
 pub use whole::lower_void;
+pub use whole::solve_all;
 pub use whole::solve_pair;

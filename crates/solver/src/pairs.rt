@@ -36,11 +36,25 @@ fn sweep_pair(
     let one = first.own;
     let two = second.own;
     levels::sweep_table(
-        tablebase, binomials, near, mills, rings, first, two.start, level,
+        tablebase,
+        binomials,
+        near,
+        mills,
+        rings,
+        first,
+        two.start,
+        level,
     );
     if first.mover != first.opponent {
         levels::sweep_table(
-            tablebase, binomials, near, mills, rings, second, one.start, level,
+            tablebase,
+            binomials,
+            near,
+            mills,
+            rings,
+            second,
+            one.start,
+            level,
         );
     }
 }
@@ -66,9 +80,7 @@ fn pair_decided(
     if levels::some_decided(tablebase, binomials, near, mills, rings, first, two.start) {
         return true;
     }
-    levels::some_decided(
-        tablebase, binomials, near, mills, rings, second, one.start,
-    )
+    levels::some_decided(tablebase, binomials, near, mills, rings, second, one.start)
 }
 
 // Both tables filled with one value.
@@ -142,7 +154,14 @@ pub fn solve_tables(
     let mut level: u16 = 0;
     while level <= limit {
         sweep_pair(
-            tablebase, binomials, near, mills, rings, first, second, level,
+            tablebase,
+            binomials,
+            near,
+            mills,
+            rings,
+            first,
+            second,
+            level,
         );
         level = level_after(tablebase, first, second, level);
     }

@@ -19,8 +19,7 @@ sweep-table-requires-2 c κs =
     let s = c .before .before .before .before .before .before .before .before .before .before in
     let a = s .args in
     let e = ap length (c .before .before .before .before .before .sweep-table .ensures)
-        ∙ swept-length (a .rings) (a .first) (a .second .own .start) (a .level) (a .tablebase .now) (size (8 * a .rings) (a .first .mover) (a .first .opponent)) in
-    (
+    ∙ swept-length (a .rings) (a .first) (a .second .own .start) (a .level) (a .tablebase .now) (size (8 * a .rings) (a .first .mover) (a .first .opponent)) in (
       s .pre .0,
       (
         s .pre .1 .0,
