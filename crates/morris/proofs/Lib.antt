@@ -10,3 +10,4 @@ pub mod FrameRoundTrip
 pub mod FrameCases
 pub mod OneClass
 pub mod Starred
+pub mod Promised
