@@ -64,6 +64,10 @@ module _ {Pos : Type 0} (next : Pos → List Pos) (seed : Pos → Seed) where
   abbrev pub Draw : Pos → Type 0
   Draw p = (n : ℕ) → ended n p ≡ false
 
+  -- one side can force a win within n plies and within no fewer: the mover where n is odd, the other where it is even
+  abbrev pub ForcedIn : ℕ → Pos → Type 0
+  ForcedIn n p = ((n % 2 ≡ 1) × WonIn n p) ⊎ ((n % 2 ≡ 0) × LostIn n p)
+
   -- the entry of a position: its depth, or draw
   abbrev pub Entry : Pos → ℕ → Type 0
   Entry p e = ((e < voidEntry) × Depth e p) ⊎ ((e ≡ drawEntry) × Draw p)

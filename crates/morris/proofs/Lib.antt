@@ -11,3 +11,4 @@ pub mod FrameCases
 pub mod OneClass
 pub mod Starred
 pub mod Promised
+pub mod ExactEntries
