@@ -1,7 +1,7 @@
 -- Outcomes (document 01, "A ply"): won and lost within n plies, depth, draw, entry. A game is given by the plies from each position and by what
 -- is given of a position beforehand. Won and lost are said of the mover. Assumes nothing.
 use mathlib.Core.Path.{_≡_}
-use mathlib.Core.Bool.{Bool, true, false, _&&_, _||_}
+use mathlib.Core.Bool.{Bool, true, false, not, _&&_, _||_}
 use mathlib.Core.List.{List}
 use mathlib.Core.Logic.{_⊎_}
 use Prim.Native.Nat.{ℕ, zero, suc, _<_, _%_}
@@ -59,6 +59,11 @@ module _ {Pos : Type 0} (next : Pos → List Pos) (seed : Pos → Seed) where
   -- "its depth is the least such n"
   abbrev pub Depth : ℕ → Pos → Type 0
   Depth n p = Least (λ (k : ℕ). ended k p) n
+
+  -- the same as a test: ended within n, and not within n - 1
+  unfoldable pub depthIs : ℕ → Pos → Bool
+  depthIs zero p = ended zero p
+  depthIs (suc n) p = ended (suc n) p && not (ended n p)
 
   -- "A position that is neither within any n is a draw."
   abbrev pub Draw : Pos → Type 0

@@ -1,6 +1,7 @@
 -- Demand 3 of the calls `fill` and `fill_pair`: every entry of an accepted fill is exact, one fill leaves one tablebase whatever it held before, 13
 -- is answered exactly when some forced end lies beyond the limit, and pairs filled in order make what one fill makes. Assumes nothing.
 use mathlib.Core.Path.{_≡_, refl, sym, ap, subst, _∙_}
+use mathlib.Core.Bool.{true, false}
 use mathlib.Core.List.{List, []}
 use mathlib.Core.Logic.{_⊎_, inl, inr}
 use Prim.Native.Nat.{ℕ, _+_, _*_, _≤_, _<_}
@@ -10,7 +11,7 @@ use Rattle.lists.proofs.Tests.{clash}
 use Rattle.sizes.specs.Size.{size}
 use Rattle.ranking.specs.Unrank.{unrank}
 use Rattle.layout.specs.Layout.{start, tablebaseLength}
-use Rattle.game.specs.Game.{drawEntry, voidEntry, Draw, ForcedIn, Outcome, HasOutcome}
+use Rattle.game.specs.Game.{Seed, ended, drawEntry, Draw, ForcedIn, Outcome, HasOutcome}
 use Rattle.game.proofs.Entries.{entry-forced, forced-entry, entry-draw, draw-entry}
 use Rattle.game.proofs.Outcomes.{same-outcome}
 use Rattle.outcomes.specs.Whole.{next, wholeSeed}
@@ -25,6 +26,14 @@ use Rattle.morris.specs.Answers.{Answer, accepted, refused}
 use Rattle.morris.specs.Fills.{FillCall, FillPairCall}
 use Rattle.morris.proofs.TablebaseConditions.{AcceptedFill, accepted-fill, accepted-pair, pair-before}
 use Rattle.morris.proofs.Promised as promised
+
+-- a forced end beyond the limit: not filled, so 13
+deep-answer : (rings k limit : ℕ) (T : ℕ → ℕ → Type 0) (seed : List ℕ → Seed) (before after : List ℕ) (a : Answer)
+    → ((a ≡ accepted []) × Filled rings k limit T seed before after) ⊎ ((a ≡ refused 13) × TooDeep rings k limit T seed before after)
+    → (m o r : ℕ) → T m o → r < size (8 * rings) m o → (n : ℕ) → ended (next rings) seed n (unrank (8 * rings) m o r) ≡ true
+    → ended (next rings) seed limit (unrank (8 * rings) m o r) ≡ false → a ≡ refused 13
+deep-answer rings k limit T seed before after a (inl f) m o r t h n e b = clash (f .1 .within m o r t h n e) b
+deep-answer rings k limit T seed before after a (inr f) m o r t h n e b = f .0
 
 -- the counts of a pair that meets no refusal
 pair-met : (rings m o k limit : ℕ) (before : List ℕ) → refusal (pairPicks rings m o k limit before) ≡ 0 → Pair rings k m o
@@ -78,12 +87,9 @@ module _ (rings k limit : ℕ) (before after : List ℕ) where
   -- and where they hold and some position has, 13 is answered
   pub too-deep-fill : (a : Answer) → FillCall rings k limit before after a → refusal (fillPicks rings k limit (length before)) ≡ 0
       → Beyond rings k limit → a ≡ refused 13
-  too-deep-fill a p e d = go (promised.either-way (fillPicks rings k limit (length before)) (promised.fill-last rings k limit (length before)) _ before after a e p)
-    where
-      go : ((a ≡ accepted []) × Filled rings k limit (AllTables rings k) (λ b. wholeSeed b) before after)
-          ⊎ ((a ≡ refused 13) × TooDeep rings k limit (AllTables rings k) (λ b. wholeSeed b) before after) → a ≡ refused 13
-      go (inl f) = clash (f .1 .within (d .mover) (d .opponent) (d .rank) (d .in-table) (d .rank-low) (d .plies) (d .forced)) (d .beyond)
-      go (inr f) = f .0
+  too-deep-fill a p e d = deep-answer rings k limit (AllTables rings k) (λ b. wholeSeed b) before after a
+      (promised.either-way (fillPicks rings k limit (length before)) (promised.fill-last rings k limit (length before)) _ before after a e p)
+      (d .mover) (d .opponent) (d .rank) (d .in-table) (d .rank-low) (d .plies) (d .forced) (d .beyond)
 
 -- two accepted fills of one size leave one tablebase, whatever the buffers held and whatever the limits
 pub fill-one : (rings k limit limit′ : ℕ) (a b a′ b′ : List ℕ) → FillCall rings k limit a a′ (accepted []) → FillCall rings k limit′ b b′ (accepted []) → a′ ≡ b′
@@ -114,6 +120,14 @@ pub pair-too-deep : (rings m o k limit : ℕ) (before after : List ℕ) → Fill
     → (refusal (pairPicks rings m o k limit before) ≡ 0) × TooDeep rings k limit (BothTables m o) (λ b. pairSeed rings k m o before b) before after
 pair-too-deep rings m o k limit before after p =
     promised.deep-fill (pairPicks rings m o k limit before) (promised.pair-last rings m o k limit before) _ before after p
+
+pub too-deep-pair : (rings m o k limit : ℕ) (before after : List ℕ) (a : Answer) → FillPairCall rings m o k limit before after a
+    → refusal (pairPicks rings m o k limit before) ≡ 0 → (x y r : ℕ) → BothTables m o x y → r < size (8 * rings) x y → (n : ℕ)
+    → ended (next rings) (λ b. pairSeed rings k m o before b) n (unrank (8 * rings) x y r) ≡ true
+    → ended (next rings) (λ b. pairSeed rings k m o before b) limit (unrank (8 * rings) x y r) ≡ false → a ≡ refused 13
+too-deep-pair rings m o k limit before after a p e =
+    deep-answer rings k limit (BothTables m o) (λ b. pairSeed rings k m o before b) before after a
+    (promised.either-way (pairPicks rings m o k limit before) (promised.pair-last rings m o k limit before) _ before after a e p)
 
 -- pairs filled in order, each by an accepted call, make the tablebase that one fill makes
 pub next-pair : (rings k m o limit : ℕ) (before after : List ℕ) → InOrder rings k m o before → o ≤ m → FillPairCall rings m o k limit before after (accepted [])
