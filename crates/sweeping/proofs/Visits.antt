@@ -24,10 +24,10 @@ use Rattle.outcomes.proofs.Ranked.{unrank-in, place-unrank}
 use Rattle.outcomes.proofs.PairGame.{InPair, pair-table}
 use Rattle.outcomes.proofs.Entries.{entry-unrank, kept-same, kept-set, kept-then}
 use Rattle.outcomes.proofs.PairLevels.{Amid, visited}
-use Rattle.solver.specs.declared.tables.Table.{Table}
-use Rattle.solver.specs.Tables.{Located}
-use Rattle.solver.specs.Levels.{isOpen, ranked, judged, sweptPlace, swept, openDecided}
-use Rattle.solver.proofs.Probed.{probed}
+use Rattle.sweeping.specs.declared.tables.Table.{Table}
+use Rattle.sweeping.specs.Tables.{Located}
+use Rattle.sweeping.specs.Levels.{isOpen, ranked, judged, sweptPlace, swept, openDecided}
+use Rattle.sweeping.proofs.Probed.{probed}
 
 -- one of the tables of a pair, and where the other starts
 pub record Side (rings k m o x y : ℕ) (t : Table) (same : ℕ) : Type 0 where

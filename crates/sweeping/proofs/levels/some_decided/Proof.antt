@@ -1,12 +1,12 @@
--- `solver::levels::some_decided` meets its contract. The invariant: no place passed is open and decided. Assumes nothing.
+-- `sweeping::levels::some_decided` meets its contract. The invariant: no place passed is open and decided. Assumes nothing.
 use mathlib.Core.Path.{_≡_, sym, ap, _∙_}
 use Prim.Native.Nat.{ℕ, _≤_, _-_, _+_}
 use mathlib.Core.Bool.{Bool, false}
 use native.Mathlib.Decide.{ℕ-discrete}
 use native.Mathlib.Omega.{arith}
-use Rattle.solver.specs.Levels.{openDecided, Found}
-use Rattle.solver.proofs.levels.some_decided.Statement.{statement}
-use Rattle.solver.proofs.levels.some_decided.Tie as tie
+use Rattle.sweeping.specs.Levels.{openDecided, Found}
+use Rattle.sweeping.proofs.levels.some_decided.Statement.{statement}
+use Rattle.sweeping.proofs.levels.some_decided.Tie as tie
 
 abbrev Inv-loop : tie.InvT-loop
 Inv-loop tablebase binomials near mills rings table same size r₀ r =

@@ -1,9 +1,9 @@
--- `solver::levels::is_open` meets its contract. Assumes nothing.
+-- `sweeping::levels::is_open` meets its contract. Assumes nothing.
 use mathlib.Core.Path.{refl}
-use Rattle.solver.specs.Levels.{isOpen}
+use Rattle.sweeping.specs.Levels.{isOpen}
 use borrow.Author.Needs.{needs}
-use Rattle.solver.proofs.levels.is_open.Statement.{statement}
-use Rattle.solver.proofs.levels.is_open.Tie as tie
+use Rattle.sweeping.proofs.levels.is_open.Statement.{statement}
+use Rattle.sweeping.proofs.levels.is_open.Tie as tie
 
 add-result : tie.Need-add-result
 add-result c = search needs

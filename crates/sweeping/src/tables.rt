@@ -3,7 +3,7 @@ ghost use mathlib.Core.Path.{_≡_};
 ghost use Prim.Native.Nat.{_≤_, _<_};
 ghost use Rattle.sizes.specs.Binomial.{BinomialTable};
 ghost use Rattle.layout.specs.Layout.{start, end};
-ghost use Rattle.solver.specs.Tables.{lowerStart, lowerEnd, Located};
+ghost use Rattle.sweeping.specs.Tables.{lowerStart, lowerEnd, Located};
 
 // The places from start on and below end.
 pub struct Part {

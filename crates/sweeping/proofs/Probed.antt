@@ -20,7 +20,7 @@ use Rattle.outcomes.proofs.Ranked.{InTable, place-at}
 use Rattle.outcomes.proofs.Entries.{entry-place, entry-two, entry-three}
 use Rattle.probing.specs.Probes.{probe}
 use Rattle.probing.proofs.Reading.{probe-same, probe-two, probe-fewer}
-use Rattle.solver.specs.Tables.{lowerStart}
+use Rattle.sweeping.specs.Tables.{lowerStart}
 
 module _ (points k m o : ℕ) where
   pub lower-starts : 4 ≤ o → lowerStart points k m o ≡ start points k (o - 1) m

@@ -1,11 +1,11 @@
--- `solver::levels::sweep_place` meets its contract. Assumes nothing.
+-- `sweeping::levels::sweep_place` meets its contract. Assumes nothing.
 use mathlib.Core.Path.{sym, _∙_}
 use lib.ListN.{length}
-use Rattle.solver.proofs.AtRank.{AtRank, at-rank, hit-at, place-closed, place-hit, place-missed}
+use Rattle.sweeping.proofs.AtRank.{AtRank, at-rank, hit-at, place-closed, place-hit, place-missed}
 use borrow.Author.Needs.{needs}
-use Rattle.solver.proofs.levels.sweep_place.Statement.{statement}
-use Rattle.solver.proofs.levels.sweep_place.Tie as tie
-use Rattle.solver.proofs.levels.sweep_place.Reads as reads
+use Rattle.sweeping.proofs.levels.sweep_place.Statement.{statement}
+use Rattle.sweeping.proofs.levels.sweep_place.Tie as tie
+use Rattle.sweeping.proofs.levels.sweep_place.Reads as reads
 
 -- the position that is judged
 found : (c : tie.After-unrank)

@@ -1,13 +1,13 @@
--- `solver::levels::sweep_table` meets its contract. The invariant: the places passed are swept. Assumes nothing.
+-- `sweeping::levels::sweep_table` meets its contract. The invariant: the places passed are swept. Assumes nothing.
 use mathlib.Core.Path.{_≡_, refl, sym, ap, subst, _∙_}
 use Prim.Native.Nat.{ℕ, _≤_, _-_, _+_, _*_}
 use native.Mathlib.Omega.{arith}
 use lib.ListN.{length}
 use Rattle.sizes.specs.Size.{size}
-use Rattle.solver.specs.Levels.{Fits, swept}
-use Rattle.solver.proofs.AtRank.{place-length, swept-none, swept-more}
-use Rattle.solver.proofs.levels.sweep_table.Statement.{statement}
-use Rattle.solver.proofs.levels.sweep_table.Tie as tie
+use Rattle.sweeping.specs.Levels.{Fits, swept}
+use Rattle.sweeping.proofs.AtRank.{place-length, swept-none, swept-more}
+use Rattle.sweeping.proofs.levels.sweep_table.Statement.{statement}
+use Rattle.sweeping.proofs.levels.sweep_table.Tie as tie
 
 abbrev Inv-loop : tie.InvT-loop
 Inv-loop tablebase₀ binomials near mills rings table same level size r₀ tablebase r =

@@ -1,11 +1,11 @@
--- `solver::levels::open_decided` meets its contract. Assumes nothing.
+-- `sweeping::levels::open_decided` meets its contract. Assumes nothing.
 use mathlib.Core.Path.{sym, _∙_}
 use lib.ListN.{length}
-use Rattle.solver.proofs.AtRank.{AtRank, at-rank, decided-at, closed-undecided, open-decided}
+use Rattle.sweeping.proofs.AtRank.{AtRank, at-rank, decided-at, closed-undecided, open-decided}
 use borrow.Author.Needs.{needs}
-use Rattle.solver.proofs.levels.open_decided.Statement.{statement}
-use Rattle.solver.proofs.levels.open_decided.Tie as tie
-use Rattle.solver.proofs.levels.open_decided.Reads as reads
+use Rattle.sweeping.proofs.levels.open_decided.Statement.{statement}
+use Rattle.sweeping.proofs.levels.open_decided.Tie as tie
+use Rattle.sweeping.proofs.levels.open_decided.Reads as reads
 
 -- the position that is judged
 found : (c : tie.After-unrank)

@@ -4,7 +4,7 @@ use mathlib.Core.Bool.{true, false}
 use Prim.Native.Nat.{ℕ, _-_}
 use lib.Dec.{eqb}
 use Rattle.layout.specs.Layout.{start, end}
-use Rattle.solver.specs.declared.tables.Table.{Table}
+use Rattle.sweeping.specs.declared.tables.Table.{Table}
 
 -- the part of table (o - 1, m), which a removal from (m, o) leads to; empty where that leaves two stones
 unfoldable pub lowerStart : ℕ → ℕ → ℕ → ℕ → ℕ

@@ -5,7 +5,7 @@ ghost use lib.ListN.{length};
 ghost use Rattle.sizes.specs.Size.{size};
 ghost use Rattle.sizes.specs.Binomial.{BinomialTable};
 ghost use Rattle.plies.specs.Masks.{NeighbourMasks, MillMasks};
-ghost use Rattle.solver.specs.Levels.{Fits, isOpen, sweptPlace, swept, openDecided, Found};
+ghost use Rattle.sweeping.specs.Levels.{Fits, isOpen, sweptPlace, swept, openDecided, Found};
 use super::tables::Table;
 
 // The entry of a position that is open, and of a draw in the end.

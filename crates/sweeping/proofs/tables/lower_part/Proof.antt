@@ -1,10 +1,10 @@
--- `solver::tables::lower_part` meets its contract. Assumes nothing.
+-- `sweeping::tables::lower_part` meets its contract. Assumes nothing.
 use mathlib.Core.Path.{_∙_}
 use borrow.Author.Tests.{eq-eqb, ne-eqb}
-use Rattle.solver.specs.Tables.{lowerStart, lowerEnd}
+use Rattle.sweeping.specs.Tables.{lowerStart, lowerEnd}
 use borrow.Author.Needs.{needs}
-use Rattle.solver.proofs.tables.lower_part.Statement.{statement}
-use Rattle.solver.proofs.tables.lower_part.Tie as tie
+use Rattle.sweeping.proofs.tables.lower_part.Statement.{statement}
+use Rattle.sweeping.proofs.tables.lower_part.Tie as tie
 
 returns : tie.Need-returns
 unfolding lowerStart lowerEnd

@@ -16,8 +16,8 @@ use Rattle.plies.specs.Positions.{Placed}
 use Rattle.game.specs.Judgement.{hit, decided}
 use Rattle.outcomes.specs.Whole.{next}
 use Rattle.probing.specs.Probes.{probe, Reads}
-use Rattle.solver.specs.declared.tables.Table.{Table}
-use Rattle.solver.specs.Levels.{Fits, isOpen, ranked, judged, sweptPlace, swept, openDecided}
+use Rattle.sweeping.specs.declared.tables.Table.{Table}
+use Rattle.sweeping.specs.Levels.{Fits, isOpen, ranked, judged, sweptPlace, swept, openDecided}
 
 pub record AtRank (n rings : ℕ) (t : Table) (same r : ℕ) (p : Position) : Type 0 where
   pub placed : Placed rings p
