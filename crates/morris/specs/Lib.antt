@@ -9,4 +9,5 @@ pub mod ReadFrameCall
 pub mod WriteFrameCall
 pub mod RepresentativeCall
 pub mod LookupCall
+pub mod BestMoveCall
 pub mod Cases
