@@ -5,6 +5,7 @@ pub mod Play
 pub mod Answering
 pub mod FrameConditions
 pub mod TablebaseConditions
+pub mod BestMoves
 pub mod RoundTrip
 pub mod FrameRoundTrip
 pub mod FrameCases

@@ -17,6 +17,7 @@ use Rattle.rules.specs.Ply.{removable, listedMoves, afterPly}
 use Rattle.rules.proofs.Listed.{removable-takes}
 use Rattle.rules.proofs.Leads.{ply-leads}
 use Rattle.plies.specs.Positions.{Placed}
+use Rattle.plies.proofs.After.{board-placed, board-back}
 use Rattle.morris.proofs.Conditions.{Accepted}
 
 -- a position that was made of a board
@@ -39,10 +40,10 @@ module _ (rings : ℕ) (b : List ℕ) (w : Accepted rings b) where
   few-points = omega (arith, w .points, w .rings-high)
 
   pub placed : Placed rings (positionOf b)
-  placed = record { small = w .rings-high; on = subst (λ (n : ℕ). OnBoard n (positionOf b)) (w .points) (position-on b) }
+  placed = board-placed rings (w .rings-high) b (w .values) (w .points)
 
   pub position-back : boardOf (8 * rings) (positionOf b) ≡ b
-  position-back = ap (λ (n : ℕ). boardOf n (positionOf b)) (sym (w .points)) ∙ board-position b (w .values)
+  position-back = board-back rings (w .rings-high) b (w .values) (w .points)
 
   -- the moves are the board's
   pub moves-back : listedMoves rings (boardOf (8 * rings) (positionOf b)) ≡ listedMoves rings b
@@ -52,4 +53,4 @@ module _ (rings : ℕ) (b : List ℕ) (w : Accepted rings b) where
   pub after-back : (move : ℕ) → member move (listedMoves rings b) ≡ true → boardOf (8 * rings) (positionOf (afterPly b move)) ≡ afterPly b move
   after-back move e =
       let l = ply-leads (λ n c. removable n c) removable-takes rings (w .rings-high) b (w .values) (w .points) move (member-is move (listedMoves rings b) e) in
-      ap (λ (n : ℕ). boardOf n (positionOf (afterPly b move))) (sym (l .points ∙ w .points)) ∙ board-position (afterPly b move) (l .values)
+      board-back rings (w .rings-high) (afterPly b move) (l .values) (l .points ∙ w .points)

@@ -9,5 +9,6 @@ pub mod ReadFrameCall
 pub mod WriteFrameCall
 pub mod RepresentativeCall
 pub mod LookupCall
+pub mod BestMoveCall
 pub mod Fills
 pub mod Cases

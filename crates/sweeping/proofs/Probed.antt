@@ -1,4 +1,4 @@
--- What is read of a successor is its entry in the tablebase: the tables are where the layout puts them. Assumes nothing.
+-- What is read of a successor is its entry in the tablebase: the tables are where the layout puts them, and lie within it. Assumes nothing.
 use mathlib.Core.Path.{_≡_, refl, sym, ap, subst, _∙_}
 use mathlib.Core.Bool.{Bool, true, false}
 use mathlib.Core.List.{List, List·Memᴰ}
@@ -7,25 +7,43 @@ use Prim.Native.Nat.{ℕ, suc, _+_, _-_, _*_, _≤_}
 use native.Mathlib.Omega.{arith}
 use lib.Dec.{ltb}
 use lib.ListN.{getD}
-use borrow.Author.Tests.{ltb-true, ltb-false, ne-eqb}
+use borrow.Author.Tests.{ltb-true, ltb-false, eq-eqb, ne-eqb}
 use Rattle.board.specs.Board.{count}
+use Rattle.sizes.specs.Size.{size}
 use Rattle.ranking.specs.Rank.{rank}
-use Rattle.layout.specs.Layout.{start}
+use Rattle.layout.specs.Layout.{start, tablebaseLength}
+use Rattle.layout.proofs.OneToOne.{InRange, end-is, end-within}
 use Rattle.rules.specs.Ply.{removable, afterPly, removedOf}
 use Rattle.rules.proofs.Listed.{successor-of, removable-takes}
 use Rattle.rules.proofs.Leads.{Leads, MoverLeft, ply-leads}
-use Rattle.outcomes.specs.Places.{place, successorEntry}
+use Rattle.outcomes.specs.Places.{successorEntry}
 use Rattle.outcomes.specs.Whole.{next}
 use Rattle.outcomes.proofs.Ranked.{InTable, place-at}
 use Rattle.outcomes.proofs.Entries.{entry-place, entry-two, entry-three}
-use Rattle.probing.specs.Probes.{probe}
+use Rattle.probing.specs.Probes.{probe, Reads}
 use Rattle.probing.proofs.Reading.{probe-same, probe-two, probe-fewer}
 use Rattle.sweeping.specs.Tables.{lowerStart}
 
 module _ (points k m o : ℕ) where
+  pub lower-none : o ≡ 3 → lowerStart points k m o ≡ 0
+  unfolding lowerStart
+  lower-none e = rw (eq-eqb o 3 e, lowerStart)
+
   pub lower-starts : 4 ≤ o → lowerStart points k m o ≡ start points k (o - 1) m
   unfolding lowerStart
   lower-starts h = rw (ne-eqb o 3 (λ e. omega arith), lowerStart)
+
+  -- the tables of the successors of (m, o)
+  pub reads-within : InRange k m o → (n : ℕ) → n ≡ tablebaseLength points k → Reads n points m o (start points k o m) (lowerStart points k m o)
+  reads-within r n e = record {
+    same-room = room o m (r .opponent-low) (r .opponent-high) (r .mover-low) (r .mover-high);
+    fewer-room = λ h. subst (λ (s : ℕ). s + size points (o - 1) m ≤ n) (sym (lower-starts h))
+        (room (o - 1) m (omega arith) (omega (arith, r .opponent-high)) (r .mover-low) (r .mover-high));
+  }
+    where
+      room : (x y : ℕ) → 3 ≤ x → x ≤ k → 3 ≤ y → y ≤ k → start points k x y + size points x y ≤ n
+      room x y a b c d =
+          omega (arith, end-is points k x y, end-within points k record { mover-low = a; mover-high = b; opponent-low = c; opponent-high = d })
 
 -- the successors of a board of table (x, y)
 module _ (rings k x y : ℕ) (small : rings ≤ 3) (low : 3 ≤ y) (p : List ℕ) (w : InTable rings x y p) (now : List ℕ) where
