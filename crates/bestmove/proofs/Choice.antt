@@ -9,7 +9,7 @@ use native.Mathlib.Omega.{arith}
 use lib.Dec.{eqb}
 use borrow.Author.Tests.{eqb-true, eq-eqb}
 use Rattle.lists.specs.Lists.{any, isEmpty}
-use Rattle.lists.proofs.Members.{map-member, member-map}
+use Rattle.lists.proofs.Members.{map-member, member-map, map-same}
 use Rattle.lists.proofs.Tests.{same-test, clash, any-member, member-any}
 use Rattle.game.specs.Game.{drawEntry}
 use Rattle.game.specs.Judgement.{isLost}
@@ -26,6 +26,11 @@ first-same f g (x ∷ xs) h = go (h x (List·Memᴰ·head refl)) (first-same f g
   where
     go : f x ≡ g x → firstThat f xs ≡ firstThat g xs → firstThat f (x ∷ xs) ≡ firstThat g (x ∷ xs)
     go p q = ap₂ (λ (b : Bool) (r : ℕ). elim b as (λ c. ℕ) [ true ↦ x | false ↦ r ]) p q
+
+-- so the best move is one, by equal entries of the members
+pub best-same : (f g : ℕ → ℕ) (ms : List ℕ) → ((m : ℕ) → List·Memᴰ m ms → f m ≡ g m) → bestMove f ms ≡ bestMove g ms
+unfolding bestMove
+best-same f g ms h = first-same _ _ ms (λ m i. ap₂ eqb (h m i) (ap bestEntry (map-same f g ms h)))
 
 -- it is a member that passes, where one does
 first-passes : (f : ℕ → Bool) (l : List ℕ) (x : ℕ) → List·Memᴰ x l → f x ≡ true → List·Memᴰ (firstThat f l) l × (f (firstThat f l) ≡ true)

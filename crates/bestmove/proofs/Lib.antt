@@ -1,5 +1,6 @@
 pub mod Choice
 pub mod FirstGreatest
 pub mod MoveEntries
+pub mod QuickestWin
 pub mod Running
 pub mod Worths

@@ -16,7 +16,7 @@ module _ {Pos : Type 0} (next : Pos → List Pos) (seed : Pos → Seed) (best : 
     (closed : (p : Pos) → S p → seed p ≡ live → (q : Pos) → List·Memᴰ q (next p) → S q)
     (whole : (p : Pos) → S p → (seed p ≡ live) ⊎ (seed p ≡ ends 0))
     (best-listed : (n : ℕ) (p : Pos) → S p → seed p ≡ live → won next seed n p ≡ true → List·Memᴰ (best p) (next p))
-    (quick : (n : ℕ) (p : Pos) → S p → WonIn next seed (suc n) p → LostIn next seed n (best p)) where
+    (quick : (n : ℕ) (p : Pos) → S p → seed p ≡ live → WonIn next seed (suc n) p → LostIn next seed n (best p)) where
   is-live : (n : ℕ) (p : Pos) → S p → won next seed n p ≡ true → seed p ≡ live
   is-live n p s w = go (whole p s)
     where
@@ -30,7 +30,7 @@ module _ {Pos : Type 0} (next : Pos → List Pos) (seed : Pos → Seed) (best : 
     where
       go : (k : ℕ) → k ≤ suc n → WonIn next seed k p → lost next seed n (best p) ≡ true
       go zero l a = absurd (omega (arith, won-odd next seed p a))
-      go (suc k) l a = mono-le _ (lost-mono next seed (best p)) (omega arith) (quick k p s a .holds)
+      go (suc k) l a = mono-le _ (lost-mono next seed (best p)) (omega arith) (quick k p s (is-live (suc k) p s (a .holds)) a .holds)
 
   pub best-wins : (n : ℕ) (p : Pos) → S p → won next seed n p ≡ true → Wins next seed best n p
   best-wins zero p s w = let f = least-find _ (won-mono next seed p) zero w in omega (arith, f .1, won-odd next seed p (f .2))

@@ -1,18 +1,24 @@
 -- How long the lists are that the definitions make. Assumes nothing.
-use mathlib.Core.Path.{_≡_, refl}
+use mathlib.Core.Path.{_≡_, refl, sym}
 use mathlib.Core.Bool.{Bool, true, false}
 use mathlib.Core.List.{List, [], _∷_, List·Memᴰ, List·Memᴰ·head, List·Memᴰ·tail}
 use Prim.Native.Nat.{ℕ, zero, suc, _*_, _≤_}
 use native.Mathlib.Omega.{arith}
 use native.Mathlib.Nat.{suc-mul}
+use lib.Dec.{eqb}
 use lib.ListN.{length, length-append}
-use Rattle.lists.specs.Lists.{range, keep, each, orElse}
+use borrow.Author.Tests.{ne-eqb}
+use Rattle.lists.specs.Lists.{range, keep, each, isEmpty, orElse}
 
 pub length-range : (n a : ℕ) → length (range a n) ≡ n
 length-range zero a = refl
 length-range (suc n) a = omega (arith, length-range n (suc a))
 
 module _ {A : Type 0} where
+  pub empty-length : (l : List A) → isEmpty l ≡ eqb (length l) 0
+  empty-length [] = refl
+  empty-length (x ∷ xs) = sym (ne-eqb (suc (length xs)) 0 (λ e. omega arith))
+
   pub keep-le : (f : A → Bool) (l : List A) → length (keep f l) ≤ length l
   keep-le f [] = omega arith
   keep-le f (x ∷ xs) = go (f x) refl (keep-le f xs)

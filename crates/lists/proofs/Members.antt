@@ -1,5 +1,6 @@
--- Who is a member of a list that the definitions make: of `keep`, `each`, `map`, `range` and `orElse`, in both directions. Assumes nothing.
-use mathlib.Core.Path.{_≡_, refl, sym, ap, _∙_}
+-- Who is a member of a list that the definitions make: of `keep`, `each`, `map`, `range` and `orElse`, in both directions. Functions equal on the
+-- members map a list alike. Assumes nothing.
+use mathlib.Core.Path.{_≡_, refl, sym, ap, ap₂, _∙_}
 use mathlib.Core.Bool.{Bool, true, false, true≢false}
 use mathlib.Core.Logic.{_⊎_, inl, inr}
 use mathlib.Core.List.{List, [], _∷_, _++_, map, List·Memᴰ, List·Memᴰ·head, List·Memᴰ·tail, List·Memᴰ·not-nil, List·Memᴰ·cases-cons, List·Memᴰ·append-cases, Memᴰ·append-left, Memᴰ·append-right}
@@ -69,6 +70,10 @@ module _ {A B : Type 0} (f : A → B) where
       go : (x ≡ a) ⊎ List·Memᴰ x l → (List·Memᴰ x l → List·Memᴰ (f x) (map f l)) → List·Memᴰ (f x) (f a ∷ map f l)
       go (inl p) r = List·Memᴰ·head (ap f p)
       go (inr k) r = List·Memᴰ·tail (r k)
+
+pub map-same : {A B : Type 0} (f g : A → B) (l : List A) → ((x : A) → List·Memᴰ x l → f x ≡ g x) → map f l ≡ map g l
+map-same f g [] h = refl
+map-same f g (x ∷ xs) h = ap₂ _∷_ (h x (List·Memᴰ·head refl)) (map-same f g xs (λ y m. h y (List·Memᴰ·tail m)))
 
 pub range-member : (n a : ℕ) {x : ℕ} → List·Memᴰ x (range a n) → (a ≤ x) × (x < a + n)
 range-member zero a m = absurd (List·Memᴰ·not-nil m)

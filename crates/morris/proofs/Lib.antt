@@ -1,13 +1,10 @@
-pub mod FirstRefusal
-pub mod Conditions
 pub mod Positions
 pub mod Play
-pub mod Answering
-pub mod FrameConditions
-pub mod TablebaseConditions
+pub mod BestMoves
 pub mod RoundTrip
 pub mod FrameRoundTrip
 pub mod FrameCases
 pub mod OneClass
 pub mod Starred
 pub mod Promised
+pub mod ExactEntries

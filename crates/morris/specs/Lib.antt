@@ -1,6 +1,3 @@
-pub mod Refusals
-pub mod Conditions
-pub mod Answers
 pub mod RankCall
 pub mod UnrankCall
 pub mod MovesCall
@@ -9,5 +6,6 @@ pub mod ReadFrameCall
 pub mod WriteFrameCall
 pub mod RepresentativeCall
 pub mod LookupCall
+pub mod BestMoveCall
 pub mod Fills
 pub mod Cases

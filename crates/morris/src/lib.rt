@@ -3,7 +3,7 @@
 // Every call answers on every input: its result, or the number of the first refusal of document 01's table that it meets, and then each lent
 // buffer is as it was. `docs/PROMISES.md` says which sentence of the papers each contract states.
 mod reader;
-mod refusals;
+mod successors;
 
 ghost use mathlib.Core.Path.{_≡_};
 ghost use Rattle.morris.specs.RankCall.{ranked, rankCall};
@@ -11,8 +11,9 @@ ghost use Rattle.morris.specs.UnrankCall.{unranked, unrankCall, unrankTa
 ghost use Rattle.morris.specs.MovesCall.{listed, movesCall, movesList};
 ghost use Rattle.morris.specs.MakeMoveCall.{made, makeMoveCall, makeMoveTarget};
 ghost use Rattle.morris.specs.RepresentativeCall.{represented, representativeCall};
-ghost use Rattle.morris.specs.Fills.{solved, FillCall, FillPairCall};
 ghost use Rattle.morris.specs.LookupCall.{looked, lookupCall};
+ghost use Rattle.morris.specs.BestMoveCall.{chosen, bestMoveCall};
+ghost use Rattle.morris.specs.Fills.{solved, FillCall, FillPairCall};
 ghost use Rattle.morris.specs.ReadFrameCall.{frameRead, readFrameCall};
 ghost use Rattle.morris.specs.WriteFrameCall.{frameWritten, writeFrameCall, writeFrameTarget};
 
@@ -163,6 +164,57 @@ pub fn lookup(rings: u8, board: &[u8], k: u8, tablebase: &[u16]) -> Looked
         return Looked::Refused(refusals::VOID);
     }
     Looked::Entry(entry)
+}
+
+// A move with the entry of the successor that it leads to, or the number of a refusal.
+pub enum Chosen {
+    Move { number: u16, entry: u16 },
+    Refused(u8),
+}
+
+// The best move of a board by the entries of its successors: the first listed among quickest win, else a draw, else longest loss.
+// Refusals: 1, 2, 3, 4, 11, 6, 9, 12.
+pub fn best_move(rings: u8, board: &[u8], k: u8, tablebase: &[u16]) -> Chosen
+    ensures { λ r. ⌜ chosen r ≡ bestMoveCall rings (now (board .entry)) k (now (tablebase .entry)) ⌝ }
+{
+    let binomials = sizes::binomial_table();
+    let refusal = refusals::of_tablebase(&binomials, rings, board, k, tablebase.len());
+    if refusal != 0 {
+        return Chosen::Refused(refusal);
+    }
+    let near = plies::neighbour_masks(rings as usize);
+    let mills = plies::mill_masks(rings as usize);
+    let position = board::position_of(board);
+    if plies::count_moves(rings as usize, &near, &mills, position) == 0 {
+        return Chosen::Refused(refusals::BLOCKED);
+    }
+    let starts = successors::starts_of(&binomials, rings as usize, k as usize, position);
+    if probing::void_after(
+        tablebase,
+        &binomials,
+        &near,
+        &mills,
+        rings as usize,
+        starts.same,
+        starts.fewer,
+        position,
+    ) {
+        return Chosen::Refused(refusals::VOID);
+    }
+    let best = bestmove::best_move(
+        tablebase,
+        &binomials,
+        &near,
+        &mills,
+        rings as usize,
+        starts.same,
+        starts.fewer,
+        position,
+    );
+    Chosen::Move {
+        number: best.number,
+        entry: best.entry,
+    }
 }
 
 // The tables were filled, or the number of a refusal.

@@ -2,6 +2,7 @@ pub mod Boards
 pub mod Ranked
 pub mod PairGame
 pub mod Entries
+pub mod WholeGame
 pub mod Unique
 pub mod PairLevels
 pub mod Voids

@@ -1,38 +1,28 @@
 -- Over a tablebase whose lower tables hold the true entries, the game of a pair is the whole game on the pair: a pair's fill leaves true entries, and
 -- a forced end beyond the limit is one of the whole game. Assumes nothing.
-use mathlib.Core.Path.{_≡_, sym, subst₂, _∙_}
+use mathlib.Core.Path.{_≡_, sym, _∙_}
 use mathlib.Core.Bool.{false}
 use mathlib.Core.List.{List}
 use mathlib.Core.Logic.{inl, inr}
 use Prim.Native.Nat.{ℕ, _+_, _*_, _≤_, _<_}
 use native.Mathlib.Omega.{arith}
 use lib.ListN.{getD}
-use borrow.Author.Tests.{lt-ltb, le-ltb}
 use Rattle.board.specs.Board.{count}
 use Rattle.sizes.specs.Size.{size}
-use Rattle.ranking.specs.Rank.{rank}
 use Rattle.ranking.specs.Unrank.{unrank}
 use Rattle.layout.specs.Layout.{start}
-use Rattle.game.specs.Game.{Seed, live, ends, ended}
+use Rattle.game.specs.Game.{Seed, ended}
 use Rattle.game.proofs.Compose.{Faithful, both-live, true-depth, true-draw, same-seed, same-ended, entry-back}
 use Rattle.outcomes.specs.Places.{entryAt}
 use Rattle.outcomes.specs.Whole.{next, wholeSeed, TrueEntry}
 use Rattle.outcomes.specs.Pair.{Pair, inPair, pairSeed, PairEntry, LowerTables, LowerValid}
 use Rattle.outcomes.specs.Filled.{BothTables, Filled, TooDeep}
 use Rattle.outcomes.specs.Order.{TrueEntries}
-use Rattle.outcomes.proofs.Ranked.{unrank-in, own-table, rank-in, unrank-of}
+use Rattle.outcomes.proofs.Ranked.{unrank-in}
 use Rattle.outcomes.proofs.PairGame.{OnPair, on-pair, pair-table, Reached, of-pair, two-left, below, reached}
 use Rattle.outcomes.proofs.PairGame.{given-draw, given-ends, seed-two, seed-given, stands, three-own}
-use Rattle.outcomes.proofs.Entries.{entry-rank}
+use Rattle.outcomes.proofs.WholeGame.{whole-two, whole-live, table-true}
 use Rattle.outcomes.proofs.PairLevels.{Valid, pair-live, pair-ground}
-
-whole-two : (b : List ℕ) → count 1 b < 3 → wholeSeed b ≡ ends 0
-unfolding wholeSeed
-whole-two b h = rw (lt-ltb (count 1 b) 3 h, wholeSeed)
-
-whole-live : (b : List ℕ) → 3 ≤ count 1 b → wholeSeed b ≡ live
-unfolding wholeSeed
-whole-live b h = rw (le-ltb (count 1 b) 3 h, wholeSeed)
 
 -- the lower tables hold the true entries
 abbrev pub LowerTrue : ℕ → ℕ → ℕ → ℕ → List ℕ → Type 0
@@ -56,10 +46,7 @@ module _ (rings k m o : ℕ) (pair : Pair rings k m o) (before : List ℕ) (low 
 
   -- a board of a lower table has its true entry
   entry-true : (b : List ℕ) → OnPair rings m o b → LowerTables m o (count 1 b) (count 2 b) → TrueEntry rings b (entryAt rings k before b)
-  entry-true b s t =
-      let w = own-table rings k b (stands rings k m o pair b s (t .0)) in
-      subst₂ (λ (c : List ℕ) (e : ℕ). TrueEntry rings c e) (unrank-of rings (count 1 b) (count 2 b) b w) (entry-rank rings k before b)
-      (low (count 1 b) (count 2 b) (rank b) t (rank-in rings (count 1 b) (count 2 b) b w))
+  entry-true b s t = table-true rings k (LowerTables m o) before low b (stands rings k m o pair b s (t .0)) t
 
   -- what the pair's game is given is true
   faithful : (b : List ℕ) → OnPair rings m o b → Faithful (next rings) (λ c. wholeSeed c) (λ c. seed c) b

@@ -1,26 +1,33 @@
--- Void in the lower tables of a pair: it is looked for in their parts of the tablebase, and where there is none they hold depths and draws.
--- Assumes nothing.
-use mathlib.Core.Path.{_≡_, refl, sym, ap, ap₂, subst, _∙_}
+-- Void among the successors of a board, and in the lower tables of a pair: it is looked for in their parts of the tablebase, and where there is none
+-- they hold depths and draws. Assumes nothing.
+use mathlib.Core.Path.{_≡_, refl, sym, ap, ap₂, _∙_}
 use mathlib.Core.Bool.{Bool, true, false, _&&_, _||_}
 use mathlib.Core.List.{List, List·Memᴰ}
 use mathlib.Core.Logic.{_⊎_, inl, inr}
 use Prim.Native.Nat.{ℕ, suc, _+_, _-_, _*_, _≤_, _<_}
 use native.Mathlib.Omega.{arith}
-use lib.Dec.{eqb, leb, ltb}
+use lib.Dec.{leb, ltb}
 use lib.ListN.{length, getD, take, drop, length-drop}
 use lib.Seq.{length-take-le, getD-take, getD-drop}
 use borrow.Author.Tests.{le-leb, eqb-false, ltb-true, ltb-false}
 use Rattle.lists.specs.Lists.{any}
 use Rattle.lists.proofs.Members.{getD-member}
-use Rattle.lists.proofs.Tests.{or-left, or-right, any-none}
+use Rattle.lists.proofs.Tests.{or-left, or-right, any-same, any-none}
 use Rattle.sizes.specs.Size.{size}
 use Rattle.layout.specs.Layout.{start, end, tablebaseLength}
 use Rattle.layout.proofs.OneToOne.{InRange, end-is, end-within}
 use Rattle.game.specs.Game.{drawEntry, voidEntry}
-use Rattle.outcomes.specs.Places.{isVoid, tableVoid, lowerVoid}
+use Rattle.outcomes.specs.Places.{successorEntry, isVoid, successorVoid, tableVoid, lowerVoid}
+use Rattle.outcomes.specs.Whole.{next}
 use Rattle.outcomes.specs.Pair.{Pair, LowerTables, LowerValid}
 
 module _ (rings k : ℕ) (tablebase : List ℕ) where
+  -- void among the successors, by what is read of them
+  pub read-void : (b : List ℕ) (read : List ℕ → ℕ) → ((c : List ℕ) → List·Memᴰ c (next rings b) → read c ≡ successorEntry rings k tablebase c)
+      → any (λ c. isVoid (read c)) (next rings b) ≡ successorVoid rings k tablebase b
+  unfolding successorVoid
+  read-void b read h = any-same _ _ (next rings b) (λ c m. ap isVoid (h c m))
+
   -- void in a table, by its part
   pub part-void : (x y a e : ℕ) → a ≡ start (8 * rings) k x y → e ≡ end (8 * rings) k x y
       → any (λ v. isVoid v) (take (e - a) (drop a tablebase)) ≡ tableVoid rings k tablebase x y

@@ -1,4 +1,4 @@
--- The position after a listed move: it is placed, and stands for the board that the move leads to. Assumes nothing.
+-- A board as a position, and the position after a listed move: each is placed, and stands for its board. Assumes nothing.
 use mathlib.Core.Path.{_≡_, sym, ap, subst, _∙_}
 use mathlib.Core.Bool.{true}
 use mathlib.Core.List.{List}
@@ -16,10 +16,10 @@ use Rattle.plies.specs.Positions.{Placed}
 
 -- a board as a position
 module _ (rings : ℕ) (small : rings ≤ 3) (b : List ℕ) (values : Values b) (points : length b ≡ 8 * rings) where
-  board-placed : Placed rings (positionOf b)
+  pub board-placed : Placed rings (positionOf b)
   board-placed = record { small = small; on = subst (λ (n : ℕ). OnBoard n (positionOf b)) points (position-on b) }
 
-  board-back : boardOf (8 * rings) (positionOf b) ≡ b
+  pub board-back : boardOf (8 * rings) (positionOf b) ≡ b
   board-back = ap (λ (n : ℕ). boardOf n (positionOf b)) (sym points) ∙ board-position b values
 
 module _ (rings : ℕ) (position : Position) (placed : Placed rings position) (n : ℕ)

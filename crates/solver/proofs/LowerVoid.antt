@@ -10,9 +10,9 @@ use Rattle.lists.specs.Lists.{any}
 use Rattle.outcomes.specs.Places.{isVoid, tableVoid}
 use Rattle.outcomes.proofs.Voids.{part-void}
 use Rattle.parts.specs.Parts.{partOf}
-use Rattle.solver.specs.declared.tables.Table.{Table}
-use Rattle.solver.specs.Tables.{lowerStart, lowerEnd, Located}
-use Rattle.solver.proofs.Probed.{lower-starts}
+use Rattle.sweeping.specs.declared.tables.Table.{Table}
+use Rattle.sweeping.specs.Tables.{lowerStart, lowerEnd, Located}
+use Rattle.sweeping.proofs.Probed.{lower-starts}
 use Rattle.solver.proofs.NextLevel.{lower-ends}
 
 pub lower-part-void : (rings k m o : ℕ) (t : Table) → Located (8 * rings) k m o t → 3 ≤ o → (tablebase : List ℕ)

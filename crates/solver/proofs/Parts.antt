@@ -17,12 +17,13 @@ use Rattle.outcomes.proofs.PairGame.{InPair}
 use Rattle.outcomes.proofs.Entries.{entry-place, kept-then}
 use Rattle.parts.specs.Parts.{filledPart}
 use Rattle.parts.proofs.Filling.{filled-length, filled-in, filled-cases}
-use Rattle.solver.specs.declared.tables.Table.{Table}
-use Rattle.solver.specs.Tables.{Located}
-use Rattle.solver.specs.Levels.{Fits, pairFilled}
+use Rattle.sweeping.specs.declared.tables.Table.{Table}
+use Rattle.sweeping.specs.Tables.{Located}
+use Rattle.sweeping.specs.Levels.{Fits}
+use Rattle.solver.specs.Pairs.{pairFilled}
 use Rattle.solver.specs.Solve.{Setting}
-use Rattle.solver.proofs.Probed.{lower-starts}
-use Rattle.solver.proofs.Sweeping.{Side}
+use Rattle.sweeping.proofs.Probed.{reads-within}
+use Rattle.sweeping.proofs.Visits.{Side}
 
 -- a table of a pair, whichever of the two
 pub in-range : {rings k m o x y : ℕ} → Pair rings k m o → BothTables m o x y → InRange k x y
@@ -67,21 +68,8 @@ module _ (rings k x y : ℕ) (t : Table) (l : Located (8 * rings) k x y t) where
     small = p .small;
     end-is = part-end ∙ ap₂ (λ (u v : ℕ). t .own .start + size (8 * rings) u v) (sym (l .mover-is)) (sym (l .opponent-is));
     room = part-room (in-range p (inl (refl, refl))) n e;
-    reads = rw (l .mover-is, l .opponent-is) record { same-room = turned; fewer-room = λ h. lower h };
+    reads = rw (l .mover-is, l .opponent-is, f, l .lower-start-is) (reads-within (8 * rings) k x y (in-range p (inl (refl, refl))) n e);
   }
-    where
-      turned : same + size (8 * rings) y x ≤ n
-      turned = omega (arith, end-within (8 * rings) k (in-range {rings = rings} p (inr (refl, refl))), end-is (8 * rings) k y x)
-
-      lower : 4 ≤ y → t .lower .start + size (8 * rings) (y - 1) x ≤ n
-      lower h =
-          let r : InRange k (y - 1) x = record {
-            mover-low = omega arith;
-            mover-high = omega (arith, p .opponent-high);
-            opponent-low = p .mover-low;
-            opponent-high = p .mover-high;
-          } in
-          omega (arith, l .lower-start-is, lower-starts (8 * rings) k x y h, end-within (8 * rings) k r, end-is (8 * rings) k (y - 1) x)
 
   -- filled with one value
   pub part-kept : (T : ℕ → ℕ → Type 0) → T x y → (v : ℕ) (now : List ℕ) → InRange k x y → length now ≡ tablebaseLength (8 * rings) k

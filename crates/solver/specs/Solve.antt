@@ -8,8 +8,8 @@ use Rattle.outcomes.specs.Pair.{Pair, pairSeed}
 use Rattle.outcomes.specs.Whole.{wholeSeed}
 use Rattle.outcomes.specs.Filled.{AllTables, BothTables, Fill}
 use Rattle.outcomes.specs.Order.{TrueOn, Beyond, Before}
-use Rattle.solver.specs.declared.tables.Table.{Table}
-use Rattle.solver.specs.Tables.{Located}
+use Rattle.sweeping.specs.declared.tables.Table.{Table}
+use Rattle.sweeping.specs.Tables.{Located}
 
 -- a and b are the tables (m, o) and (o, m) of a tablebase of a length
 pub record Setting (length rings k m o : ℕ) (a b : Table) : Type 0 where

@@ -12,7 +12,6 @@ ghost use Rattle.outcomes.specs.Order.{TrueOn, Before};
 ghost use Rattle.solver.specs.Solve.{PairFill, PairsFilled, WholeFill};
 use super::pairs;
 use super::pairs::VOID;
-use super::tables;
 
 // Whether an entry is void in the lower tables of the pair (m, o) and (o, m).
 pub fn lower_void(
@@ -27,8 +26,8 @@ pub fn lower_void(
     requires { ⌜ Pair rings k m o × (k ≤ 9) × (length (now tablebase) ≡ tablebaseLength (8 * rings) k) ⌝ }
     ensures { λ r. ⌜ r ≡ lowerVoid rings k (now (tablebase .entry)) m o ⌝ }
 {
-    let first = tables::table_of(binomials, 8 * rings, k, m, o);
-    let second = tables::table_of(binomials, 8 * rings, k, o, m);
+    let first = sweeping::table_of(binomials, 8 * rings, k, m, o);
+    let second = sweeping::table_of(binomials, 8 * rings, k, o, m);
     let one = first.lower;
     let two = second.lower;
     parts::void_within(tablebase, one.start, one.end)
@@ -54,8 +53,8 @@ pub fn solve_pair(
     requires { ⌜ LowerValid rings k m o (now tablebase) × (limit < voidEntry) ⌝ }
     ensures { λ deep. ⌜ PairFill rings k m o limit (now (tablebase .entry)) (now (tablebase .exit)) deep ⌝ }
 {
-    let first = tables::table_of(binomials, 8 * rings, k, m, o);
-    let second = tables::table_of(binomials, 8 * rings, k, o, m);
+    let first = sweeping::table_of(binomials, 8 * rings, k, m, o);
+    let second = sweeping::table_of(binomials, 8 * rings, k, o, m);
     pairs::solve_tables(
         tablebase,
         binomials,

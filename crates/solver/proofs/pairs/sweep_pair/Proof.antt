@@ -3,7 +3,7 @@ use mathlib.Core.Path.{sym, ap, subst, _∙_}
 use Prim.Native.Nat.{ℕ, _*_}
 use lib.ListN.{length}
 use Rattle.sizes.specs.Size.{size}
-use Rattle.solver.specs.Levels.{Fits}
+use Rattle.sweeping.specs.Levels.{Fits}
 use Rattle.solver.proofs.PairSteps.{swept-length, pair-once, pair-twice}
 use borrow.Author.Needs.{needs}
 use Rattle.solver.proofs.pairs.sweep_pair.Statement.{statement}

@@ -1,0 +1,48 @@
+// The tables of a position's successors.
+ghost use mathlib.Core.Path.{_≡_};
+ghost use Prim.Native.Nat.{_*_, _≤_};
+ghost use Rattle.board.specs.Board.{count, boardOf};
+ghost use Rattle.sizes.specs.Binomial.{BinomialTable};
+ghost use Rattle.layout.specs.Layout.{start};
+ghost use Rattle.plies.specs.Positions.{Placed};
+ghost use Rattle.sweeping.specs.Tables.{lowerStart};
+
+// Where they start: the table of the successors without a removal, and that of those with one.
+pub struct Starts {
+    pub same: usize,
+    pub fewer: usize,
+}
+
+// Where table (o - 1, m) starts, which a removal from (m, o) leads to; 0 where that leaves two stones.
+fn lower_start(binomials: &[u32; 625], points: usize, k: usize, m: usize, o: usize) -> usize
+    requires { ⌜ BinomialTable (now binomials) ⌝ }
+    requires { ⌜ (points ≤ 24) × (k ≤ 9) × (3 ≤ m) × (m ≤ k) × (3 ≤ o) × (o ≤ k) ⌝ }
+    ensures { λ r. ⌜ r ≡ lowerStart points k m o ⌝ }
+{
+    if o == 3 {
+        return 0;
+    }
+    layout::start(binomials, points, k, o - 1, m)
+}
+
+// The sides change names after a ply, so those without a removal are in table (o, m).
+pub fn starts_of(
+    binomials: &[u32; 625],
+    rings: usize,
+    k: usize,
+    position: board::Position,
+) -> Starts
+    requires { ⌜ BinomialTable (now binomials) ⌝ }
+    requires { ⌜ Placed rings position ⌝ }
+    requires { ⌜ (k ≤ 9) × (3 ≤ count 1 (boardOf (8 * rings) position)) × (count 1 (boardOf (8 * rings) position) ≤ k)
+        × (3 ≤ count 2 (boardOf (8 * rings) position)) × (count 2 (boardOf (8 * rings) position) ≤ k) ⌝ }
+    ensures same { λ s. ⌜ s .same ≡ start (8 * rings) k (count 2 (boardOf (8 * rings) position)) (count 1 (boardOf (8 * rings) position)) ⌝ }
+    ensures fewer { λ s. ⌜ s .fewer ≡ lowerStart (8 * rings) k (count 1 (boardOf (8 * rings) position)) (count 2 (boardOf (8 * rings) position)) ⌝ }
+{
+    let m = sets::count(position.mover) as usize;
+    let o = sets::count(position.opponent) as usize;
+    Starts {
+        same: layout::start(binomials, 8 * rings, k, o, m),
+        fewer: lower_start(binomials, 8 * rings, k, m, o),
+    }
+}
