@@ -211,7 +211,7 @@ fn voids(tablebase: &mut [u16]) {
     with_void(tablebase, 559, 3, 65534);
 }
 
-// A made-up entry: a draw, one of two depths that follow each other, or a depth below 8.
+// A made-up entry: a draw, one of two depths that follow each other, or a depth below 9.
 fn made_up(place: usize, depth: u16) -> u16 {
     let x = place % 1009 * 619 % 1009;
     if x % 4 == 0 {
@@ -223,11 +223,11 @@ fn made_up(place: usize, depth: u16) -> u16 {
     if x % 4 == 2 {
         return std::num::wrapping_add_u16(depth, 1);
     }
-    (x % 8) as u16
+    (x % 9) as u16
 }
 
 // Writes made-up entries throughout.
-fn make_up(tablebase: &mut [u16], depth: u16) {
+pub fn make_up(tablebase: &mut [u16], depth: u16) {
     let mut i = 0;
     while i < tablebase.len() {
         tablebase[i] = made_up(i, depth);

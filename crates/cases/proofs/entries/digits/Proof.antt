@@ -7,22 +7,19 @@ use Rattle.cases.proofs.entries.digits.Statement.{statement}
 use Rattle.cases.proofs.entries.digits.Tie as tie
 
 abbrev Inv-loop : tie.InvT-loop
-Inv-loop mover opponent size board₀ tablebase s₀ r₀ board s r = (r ≤ size) × (length board ≡ length board₀)
+Inv-loop mover opponent size board₀ tablebase digits₀ rank₀ board digits rank = (rank ≤ size) × (length board ≡ length board₀)
 
 abbrev μ-loop : tie.MeasureT-loop
-μ-loop mover opponent size board₀ tablebase s₀ r₀ board s r = size - r
+μ-loop mover opponent size board₀ tablebase digits₀ rank₀ board digits rank = size - rank
 
 loop-holds : tie.Need-loop-holds Inv-loop μ-loop
 loop-holds c = search needs
 
-entry-at-requires : tie.Need-entry-at-requires Inv-loop μ-loop
-entry-at-requires c κs = search needs
+with-board-requires : tie.Need-with-board-requires Inv-loop μ-loop
+with-board-requires c κs = search needs
 
-with-digit-requires : tie.Need-with-digit-requires Inv-loop μ-loop
-with-digit-requires c κs = search needs
-
-add-r : tie.Need-add-r Inv-loop μ-loop
-add-r c = search needs
+add-rank : tie.Need-add-rank Inv-loop μ-loop
+add-rank c = search needs
 
 loop-less : tie.Need-loop-less Inv-loop μ-loop
 loop-less c = search needs
@@ -43,9 +40,8 @@ digits-spec =
     Inv-loop
     μ-loop
     loop-holds
-    entry-at-requires
-    with-digit-requires
-    add-r
+    with-board-requires
+    add-rank
     loop-less
     loop-again
     same-length
