@@ -138,30 +138,26 @@ fn whole(k: u8, tablebase: &mut [u16]) {
 }
 
 // The limits of one ring with K 3: those too low and the least that is not, the highest and the first that is refused.
-fn limits(tablebase: &mut [u16]) {
-    fill(1, 3, 0, tablebase, 7);
-    fill(1, 3, 1, tablebase, 7);
-    fill(1, 3, 2, tablebase, 7);
-    fill(1, 3, 3, tablebase, 7);
-    fill(1, 3, 65533, tablebase, 7);
-    fill(1, 3, 65534, tablebase, 7);
+fn limits() {
+    fill(1, 3, 0, &mut [0; 560], 7);
+    fill(1, 3, 1, &mut [0; 560], 7);
+    fill(1, 3, 2, &mut [0; 560], 7);
+    fill(1, 3, 3, &mut [0; 560], 7);
+    fill(1, 3, 65533, &mut [0; 560], 7);
+    fill(1, 3, 65534, &mut [0; 560], 7);
 }
 
-// Refusals of a whole tablebase in a buffer of 560, and the first of two: rings, K.
-fn refused_fills(tablebase: &mut [u16]) {
-    fill(0, 3, 2000, tablebase, 7);
-    fill(4, 2, 2000, tablebase, 7);
-    fill(1, 2, 2000, tablebase, 7);
-    fill(1, 10, 65534, tablebase, 7);
-}
-
-// Length, limit.
-fn more_refused_fills(tablebase: &mut [u16]) {
-    fill(1, 4, 2000, tablebase, 7);
-    fill(2, 3, 65534, tablebase, 7);
-    fill(3, 9, 2000, tablebase, 7);
-    fill(1, 3, 65536, tablebase, 7);
-    fill(1, 3, 4294967295, tablebase, 7);
+// Each refusal of a whole tablebase, and the first of two.
+fn refused_fills() {
+    fill(0, 3, 2000, &mut [0; 560], 7);
+    fill(4, 2, 2000, &mut [0; 560], 7);
+    fill(1, 2, 2000, &mut [0; 560], 7);
+    fill(1, 10, 65534, &mut [0; 560], 7);
+    fill(1, 4, 2000, &mut [0; 560], 7);
+    fill(2, 3, 65534, &mut [0; 560], 7);
+    fill(3, 9, 2000, &mut [0; 560], 7);
+    fill(1, 3, 65536, &mut [0; 560], 7);
+    fill(1, 3, 4294967295, &mut [0; 560], 7);
 }
 
 // Every pair of one ring in order: the last line has the sums of a whole fill.
@@ -172,22 +168,18 @@ fn pairs(tablebase: &mut [u16]) {
     fill_pair(1, 3, 5, 5, 2000, tablebase);
 }
 
-// Refusals of a pair in a buffer of 1,190, and the first of two: rings, counts.
-fn refused_pairs(tablebase: &mut [u16]) {
-    fill_pair(0, 3, 3, 4, 2000, tablebase);
-    fill_pair(4, 2, 3, 4, 2000, tablebase);
-    fill_pair(1, 2, 3, 4, 2000, tablebase);
-    fill_pair(1, 3, 10, 4, 2000, tablebase);
-    fill_pair(1, 5, 4, 3, 2000, tablebase);
-}
-
-// K, length, limit.
-fn more_refused_pairs(tablebase: &mut [u16]) {
-    fill_pair(1, 3, 3, 2, 2000, tablebase);
-    fill_pair(1, 3, 3, 10, 2000, tablebase);
-    fill_pair(1, 5, 3, 4, 2000, tablebase);
-    fill_pair(1, 3, 3, 5, 65534, tablebase);
-    fill_pair(1, 3, 3, 4, 65534, tablebase);
+// Each refusal of a pair's counts, K, length and limit, and the first of two.
+fn refused_pairs() {
+    fill_pair(0, 3, 3, 4, 2000, &mut [7; 1190]);
+    fill_pair(4, 2, 3, 4, 2000, &mut [7; 1190]);
+    fill_pair(1, 2, 3, 4, 2000, &mut [7; 1190]);
+    fill_pair(1, 3, 10, 4, 2000, &mut [7; 1190]);
+    fill_pair(1, 5, 4, 3, 2000, &mut [7; 1190]);
+    fill_pair(1, 3, 3, 2, 2000, &mut [7; 1190]);
+    fill_pair(1, 3, 3, 10, 2000, &mut [7; 1190]);
+    fill_pair(1, 5, 3, 4, 2000, &mut [7; 1190]);
+    fill_pair(1, 3, 3, 5, 65534, &mut [7; 1190]);
+    fill_pair(1, 3, 3, 4, 65534, &mut [7; 1190]);
 }
 
 // A pair filled in a buffer with one void among zeros.
@@ -197,18 +189,17 @@ fn with_void(tablebase: &mut [u16], place: usize, mover: u8, limit: u32) {
     text(b" ");
     put(tablebase, place, VOID_ENTRY);
     fill_pair(1, mover, 4, 4, limit, tablebase);
-    put(tablebase, place, 0);
 }
 
 // Four against four with limit 0: void before, in and after (3, 4), which alone is lower; then refusals beside 12.
-fn voids(tablebase: &mut [u16]) {
-    fill_pair(1, 4, 4, 4, 0, tablebase);
-    with_void(tablebase, 559, 4, 0);
-    with_void(tablebase, 560, 4, 0);
-    with_void(tablebase, 839, 4, 0);
-    with_void(tablebase, 840, 4, 0);
-    with_void(tablebase, 559, 3, 0);
-    with_void(tablebase, 559, 3, 65534);
+fn voids() {
+    fill_pair(1, 4, 4, 4, 0, &mut [0; 1190]);
+    with_void(&mut [0; 1190], 559, 4, 0);
+    with_void(&mut [0; 1190], 560, 4, 0);
+    with_void(&mut [0; 1190], 839, 4, 0);
+    with_void(&mut [0; 1190], 840, 4, 0);
+    with_void(&mut [0; 1190], 559, 3, 0);
+    with_void(&mut [0; 1190], 559, 3, 65534);
 }
 
 // A made-up entry: a draw, one of two depths that follow each other, or a depth below 9.
@@ -265,13 +256,11 @@ pub fn run() {
     whole(4, &mut [0; 1190]);
     whole(5, &mut [0; 1302]);
     whole(9, &mut [0; 1302]);
-    limits(&mut [0; 560]);
-    refused_fills(&mut [0; 560]);
-    more_refused_fills(&mut [0; 560]);
+    limits();
+    refused_fills();
     pairs(&mut [7; 1302]);
-    refused_pairs(&mut [7; 1190]);
-    more_refused_pairs(&mut [7; 1190]);
-    voids(&mut [0; 1190]);
+    refused_pairs();
+    voids();
     gaps(&mut [0; 1190]);
     two_rings();
 }
