@@ -137,6 +137,14 @@ fn whole(k: u8, tablebase: &mut [u16]) {
     fill(1, k, 2000, tablebase, VOID_ENTRY);
 }
 
+// The entries of four against four: the last table with K 4.
+fn four_against_four() {
+    let mut tablebase = [7u16; 1190];
+    morris::fill(1, 4, 2000, &mut tablebase);
+    text(b"four against four");
+    contents(&tablebase[1120..1190]);
+}
+
 // The limits of one ring with K 3: those too low and the least that is not, the highest and the first that is refused.
 fn limits() {
     fill(1, 3, 0, &mut [0; 560], 7);
@@ -227,20 +235,21 @@ pub fn make_up(tablebase: &mut [u16], depth: u16) {
 }
 
 // The pair (3, 4) with K 4 over made-up entries.
-fn fill_over(rings: u8, tablebase: &mut [u16], depth: u16) {
+fn fill_over(rings: u8, tablebase: &mut [u16], depth: u16, limit: u32) {
     make_up(tablebase, depth);
     text(b"made up");
     number(wider(depth));
     contents(tablebase);
-    fill_pair(rings, 3, 4, 4, 2000, tablebase);
+    fill_pair(rings, 3, 4, 4, limit, tablebase);
 }
 
-// On one ring: with a gap before 40 and less room for it, and beyond the limit.
+// On one ring: a gap before 40 with limits on either side of the end, one beyond the limit, and one up to the highest limit.
 fn gaps(tablebase: &mut [u16]) {
-    fill_over(1, tablebase, 40);
+    fill_over(1, tablebase, 40, 2000);
     fill_pair(1, 4, 3, 4, 40, tablebase);
     fill_pair(1, 4, 3, 4, 41, tablebase);
-    fill_over(1, tablebase, 1999);
+    fill_over(1, tablebase, 1999, 2000);
+    fill_over(1, tablebase, 65532, 65533);
 }
 
 // Two rings: K 3 whole, and a pair with a gap before 12.
@@ -248,7 +257,7 @@ fn two_rings() {
     let mut tablebase = [0u16; 160160];
     fill(2, 3, 2000, &mut tablebase, 7);
     let mut larger = [0u16; 1861860];
-    fill_over(2, &mut larger, 12);
+    fill_over(2, &mut larger, 12, 2000);
 }
 
 pub fn run() {
@@ -256,6 +265,7 @@ pub fn run() {
     whole(4, &mut [0; 1190]);
     whole(5, &mut [0; 1302]);
     whole(9, &mut [0; 1302]);
+    four_against_four();
     limits();
     refused_fills();
     pairs(&mut [7; 1302]);
