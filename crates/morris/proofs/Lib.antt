@@ -6,6 +6,7 @@ pub mod Answering
 pub mod FrameConditions
 pub mod TablebaseConditions
 pub mod BestMoves
+pub mod PlayByBest
 pub mod RoundTrip
 pub mod FrameRoundTrip
 pub mod FrameCases

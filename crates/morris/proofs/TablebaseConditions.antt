@@ -68,10 +68,15 @@ pub record AcceptedEntry (rings : ℕ) (b : List ℕ) (k n : ℕ) : Type 0 where
   pub tablebase : AcceptedTablebase rings k n
   pub in-tables : InTables rings k b
 
+pub both-right : (rings : ℕ) (b : List ℕ) (k n : ℕ) → refusal (tablebasePicks rings b k n) ≡ 0
+    → (refusal (boardPicks rings b) ≡ 0) × (refusal (largestPicks rings k (countAbove k (count 1 b) (count 2 b)) n) ≡ 0)
+both-right rings b k n e =
+    both-passed (pickedRows table (boardPicks rings b)) (pickedRows table (largestPicks rings k (countAbove k (count 1 b) (count 2 b)) n)) refl e
+
 pub accepted-entry : (rings : ℕ) (b : List ℕ) (k n : ℕ) → refusal (tablebasePicks rings b k n) ≡ 0 → AcceptedEntry rings b k n
 accepted-entry rings b k n e =
     let above = countAbove k (count 1 b) (count 2 b) in
-    let p = both-passed (pickedRows table (boardPicks rings b)) (pickedRows table (largestPicks rings k above n)) refl e in
+    let p = both-right rings b k n e in
     let q = passed (pickedRows table (largestPicks rings k above n)) refl (p .1) in
     let w = accepted-board rings b (p .0) in
     let l = largest-right k above (q .0) in
