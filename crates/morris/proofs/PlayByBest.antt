@@ -9,7 +9,7 @@ use Rattle.lists.proofs.Tests.{untrue, is-member, empty-none}
 use Rattle.rules.specs.Ply.{removable, listedMoves, afterPly}
 use Rattle.rules.proofs.Listed.{successors-are, successor-of}
 use Rattle.rules.proofs.Leads.{Reached}
-use Rattle.game.specs.Game.{voidEntry}
+use Rattle.game.specs.Game.{voidEntry, WonIn}
 use Rattle.game.specs.Play.{Wins}
 use Rattle.game.proofs.Entries.{won-of, entry-won}
 use Rattle.game.proofs.Play.{wins-ply}
@@ -33,13 +33,17 @@ use Rattle.morris.proofs.Answering.{answer-accepted}
 module _ (rings k : ℕ) (tablebase : List ℕ) (entries : TrueEntries rings k (AllTables rings k) tablebase) where
   -- a board with a won entry n
   module _ (small : rings ≤ 3) (b : List ℕ) (s : InTables rings k b) (n : ℕ) (e : entryAt rings k tablebase b ≡ n) (odd : n % 2 ≡ 1) (low : n < voidEntry) where
+    won-in : WonIn (next rings) (λ c. wholeSeed c) n b
+    won-in =
+        entry-won (next rings) (λ c. wholeSeed c) b (subst (λ (x : ℕ). TrueEntry rings b x) e (board-true rings k tablebase entries b s)) (won-of odd low)
+
     pub best-play : Wins (next rings) (λ c. wholeSeed c) (λ c. bestSuccessor rings k tablebase c) n b
     unfolding bestSuccessor bestListed
     best-play =
         best-plays (next rings) (λ c. wholeSeed c) (Reached rings k) (whole-closed rings k small) (λ c w. whole-cases c) (λ c. listedMoves rings c)
         (λ c m. afterPly c m) (successors-are (λ n c. removable n c) rings) (λ c. successorEntry rings k tablebase c) (reached-true rings k tablebase entries)
         n b (board-reached rings k b s)
-        (entry-won (next rings) (λ c. wholeSeed c) b (subst (λ (x : ℕ). TrueEntry rings b x) e (board-true rings k tablebase entries b s)) (won-of odd low) .holds)
+        (won-in .holds)
 
     pub won-unblocked : moverBlocked rings b ≡ false
     won-unblocked =
