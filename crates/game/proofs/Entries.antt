@@ -10,11 +10,11 @@ use lib.Dec.{eqb, ltb}
 use borrow.Author.Tests.{ltb-true, eqb-true, lt-ltb, eq-eqb}
 use Rattle.lists.specs.Lists.{any, all}
 use Rattle.lists.proofs.Tests.{clash, untrue, and-left, and-right, and-both, or-cases, or-left, or-right, any-member, all-member, any-none, all-fails}
-use Rattle.game.specs.Game.{Seed, won, lost, ended, WonIn, LostIn, Depth, Entry, voidEntry}
+use Rattle.game.specs.Game.{Seed, won, lost, Draw, ForcedIn, drawEntry, ended, WonIn, LostIn, Depth, Entry, voidEntry}
 use Rattle.game.specs.Judgement.{isLost, isWon, decided}
 use Rattle.game.proofs.Least.{mono-le}
 use Rattle.game.proofs.Within.{ended-mono, never-both, neither-won, neither-lost}
-use Rattle.game.proofs.Depths.{depth-unique, depth-cases, depth-odd, depth-even, won-odd, lost-even}
+use Rattle.game.proofs.Depths.{won-depth, lost-depth, depth-unique, depth-cases, depth-odd, depth-even, won-odd, lost-even}
 
 pub lost-is : {e : ℕ} → isLost e ≡ true → (e % 2 ≡ 0) × (e < voidEntry)
 unfolding isLost
@@ -74,6 +74,33 @@ module _ {Pos : Type 0} (next : Pos → List Pos) (seed : Pos → Seed) (p : Pos
       go : WonIn next seed e p ⊎ LostIn next seed e p → won next seed n p ≡ false
       go (inl w) = clash (won-of (won-odd next seed p w) (a .0)) h
       go (inr l) = sym (untrue (won next seed n p) (λ x. never-both next seed n e p x (l .holds)))
+
+-- a true entry in words: n where one side can force a win within n plies and within no fewer, draw where neither can within any
+module _ {Pos : Type 0} (next : Pos → List Pos) (seed : Pos → Seed) (p : Pos) {e : ℕ} (a : Entry next seed p e) where
+  pub entry-forced : e < voidEntry → ForcedIn next seed e p
+  entry-forced l = go (depth-cases next seed p (entry-depth next seed p a l))
+    where
+      go : WonIn next seed e p ⊎ LostIn next seed e p → ForcedIn next seed e p
+      go (inl w) = inl (won-odd next seed p w, w)
+      go (inr w) = inr (lost-even next seed p w, w)
+
+  pub forced-entry : (n : ℕ) → ForcedIn next seed n p → e ≡ n
+  forced-entry n (inl w) = depth-entry next seed p a (won-depth next seed p (w .1)) .0
+  forced-entry n (inr w) = depth-entry next seed p a (lost-depth next seed p (w .1)) .0
+
+  pub entry-draw : e ≡ drawEntry → Draw next seed p
+  entry-draw v = go a
+    where
+      go : Entry next seed p e → Draw next seed p
+      go (inl d) = absurd (omega (arith, d .0))
+      go (inr d) = d .1
+
+  pub draw-entry : Draw next seed p → e ≡ drawEntry
+  draw-entry v = go a
+    where
+      go : Entry next seed p e → e ≡ drawEntry
+      go (inl d) = clash (d .1 .holds) (v e)
+      go (inr d) = d .0
 
 -- decided: one successor is lost, or all are won; undecided: none is lost, and one is not won
 module _ {Pos : Type 0} (next : Pos → List Pos) (t : Pos → ℕ) (p : Pos) where

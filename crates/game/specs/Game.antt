@@ -1,7 +1,7 @@
 -- Outcomes (document 01, "A ply"): won and lost within n plies, depth, draw, entry. A game is given by the plies from each position and by what
 -- is given of a position beforehand. Won and lost are said of the mover. Assumes nothing.
 use mathlib.Core.Path.{_≡_}
-use mathlib.Core.Bool.{Bool, true, false, _&&_, _||_}
+use mathlib.Core.Bool.{Bool, true, false, not, _&&_, _||_}
 use mathlib.Core.List.{List}
 use mathlib.Core.Logic.{_⊎_}
 use Prim.Native.Nat.{ℕ, zero, suc, _<_, _%_}
@@ -60,9 +60,18 @@ module _ {Pos : Type 0} (next : Pos → List Pos) (seed : Pos → Seed) where
   abbrev pub Depth : ℕ → Pos → Type 0
   Depth n p = Least (λ (k : ℕ). ended k p) n
 
+  -- the same as a test: ended within n, and not within n - 1
+  unfoldable pub depthIs : ℕ → Pos → Bool
+  depthIs zero p = ended zero p
+  depthIs (suc n) p = ended (suc n) p && not (ended n p)
+
   -- "A position that is neither within any n is a draw."
   abbrev pub Draw : Pos → Type 0
   Draw p = (n : ℕ) → ended n p ≡ false
+
+  -- one side can force a win within n plies and within no fewer: the mover where n is odd, the other where it is even
+  abbrev pub ForcedIn : ℕ → Pos → Type 0
+  ForcedIn n p = ((n % 2 ≡ 1) × WonIn n p) ⊎ ((n % 2 ≡ 0) × LostIn n p)
 
   -- the entry of a position: its depth, or draw
   abbrev pub Entry : Pos → ℕ → Type 0

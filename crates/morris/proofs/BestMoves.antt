@@ -21,8 +21,8 @@ use Rattle.outcomes.proofs.Voids.{read-void}
 use Rattle.probing.specs.Probes.{probe, Reads}
 use Rattle.bestmove.specs.Best.{bestEntry, bestMove, entryBy}
 use Rattle.bestmove.proofs.Choice.{best-same, best-listed}
-use Rattle.solver.specs.Tables.{lowerStart}
-use Rattle.solver.proofs.Probed.{reads-within, probed}
+use Rattle.sweeping.specs.Tables.{lowerStart}
+use Rattle.sweeping.proofs.Probed.{reads-within, probed}
 use Rattle.morris.specs.Conditions.{moverBlocked}
 use Rattle.morris.specs.BestMoveCall.{entryAfter, bestListed, bestSuccessor}
 use Rattle.morris.proofs.TablebaseConditions.{AcceptedEntry}

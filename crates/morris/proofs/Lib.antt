@@ -12,3 +12,5 @@ pub mod FrameRoundTrip
 pub mod FrameCases
 pub mod OneClass
 pub mod Starred
+pub mod Promised
+pub mod ExactEntries

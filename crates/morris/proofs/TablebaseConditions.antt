@@ -159,3 +159,9 @@ module _ (rings m o k limit : ℕ) (tablebase : List ℕ) where
   pub pair-decides : 0 ≡ refusal (tablesPicks rings m o k limit (length tablebase))
       → refusal (pairPicks rings m o k limit tablebase) ≡ cond (lowerVoid rings k tablebase m o) 12 0
   pair-decides e = one-more (pickedRows table (tablesPicks rings m o k limit (length tablebase))) (lowerVoid rings k tablebase m o) 12 refl e
+
+  -- no refusal at all: none before the lower tables are read
+  pub pair-before : refusal (pairPicks rings m o k limit tablebase) ≡ 0 → refusal (tablesPicks rings m o k limit (length tablebase)) ≡ 0
+  pair-before e =
+      both-passed (pickedRows table (tablesPicks rings m o k limit (length tablebase))) (record { holds = lowerVoid rings k tablebase m o; number = 12 } ∷ [])
+      refl e .0

@@ -10,4 +10,5 @@ pub mod WriteFrameCall
 pub mod RepresentativeCall
 pub mod LookupCall
 pub mod BestMoveCall
+pub mod Fills
 pub mod Cases

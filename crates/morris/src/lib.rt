@@ -14,6 +14,7 @@ ghost use Rattle.morris.specs.MakeMoveCall.{made, makeMoveCall, makeMove
 ghost use Rattle.morris.specs.RepresentativeCall.{represented, representativeCall};
 ghost use Rattle.morris.specs.LookupCall.{looked, lookupCall};
 ghost use Rattle.morris.specs.BestMoveCall.{chosen, bestMoveCall};
+ghost use Rattle.morris.specs.Fills.{solved, FillCall, FillPairCall};
 ghost use Rattle.morris.specs.ReadFrameCall.{frameRead, readFrameCall};
 ghost use Rattle.morris.specs.WriteFrameCall.{frameWritten, writeFrameCall, writeFrameTarget};
 
@@ -215,6 +216,85 @@ pub fn best_move(rings: u8, board: &[u8], k: u8, tablebase: &[u16]) -> Chosen
         number: best.number,
         entry: best.entry,
     }
+}
+
+// The tables were filled, or the number of a refusal.
+pub enum Solved {
+    Filled,
+    Refused(u8),
+}
+
+// Fills the tablebase of largest count k: at each place the plies to the end, or draw. Refusals: 1, 11, 6, 10, 13; after 13 every entry is void.
+pub fn fill(rings: u8, k: u8, limit: u32, tablebase: &mut [u16]) -> Solved
+    ensures { λ r. ⌜ FillCall rings k limit (now (tablebase .entry)) (now (tablebase .exit)) (solved r) ⌝ }
+{
+    let binomials = sizes::binomial_table();
+    let refusal = refusals::of_fill(&binomials, rings, k, limit, tablebase.len());
+    if refusal != 0 {
+        return Solved::Refused(refusal);
+    }
+    let near = plies::neighbour_masks(rings as usize);
+    let mills = plies::mill_masks(rings as usize);
+    if solver::solve_all(
+        tablebase,
+        &binomials,
+        &near,
+        &mills,
+        rings as usize,
+        k as usize,
+        limit as u16,
+    ) {
+        return Solved::Refused(refusals::TOO_DEEP);
+    }
+    Solved::Filled
+}
+
+// Fills the tables of two counts, either way round, over the entries of their lower tables. Refusals: 1, 4, 11, 6, 10, 12, 13; after 13 every entry
+// of the two tables is void.
+pub fn fill_pair(
+    rings: u8,
+    mover: u8,
+    opponent: u8,
+    k: u8,
+    limit: u32,
+    tablebase: &mut [u16],
+) -> Solved
+    ensures { λ r. ⌜ FillPairCall rings mover opponent k limit (now (tablebase .entry)) (now (tablebase .exit)) (solved r) ⌝ }
+{
+    let binomials = sizes::binomial_table();
+    let refusal = refusals::of_pair(
+        &binomials,
+        rings,
+        mover,
+        opponent,
+        k,
+        limit,
+        tablebase.len(),
+    );
+    if refusal != 0 {
+        return Solved::Refused(refusal);
+    }
+    let m = mover as usize;
+    let o = opponent as usize;
+    if solver::lower_void(tablebase, &binomials, rings as usize, k as usize, m, o) {
+        return Solved::Refused(refusals::VOID);
+    }
+    let near = plies::neighbour_masks(rings as usize);
+    let mills = plies::mill_masks(rings as usize);
+    if solver::solve_pair(
+        tablebase,
+        &binomials,
+        &near,
+        &mills,
+        rings as usize,
+        k as usize,
+        m,
+        o,
+        limit as u16,
+    ) {
+        return Solved::Refused(refusals::TOO_DEEP);
+    }
+    Solved::Filled
 }
 
 // A frame taken apart: a position as two point sets, or the number of a refusal.

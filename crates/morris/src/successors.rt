@@ -5,7 +5,7 @@ ghost use Rattle.board.specs.Board.{count, boardOf};
 ghost use Rattle.sizes.specs.Binomial.{BinomialTable};
 ghost use Rattle.layout.specs.Layout.{start};
 ghost use Rattle.plies.specs.Positions.{Placed};
-ghost use Rattle.solver.specs.Tables.{lowerStart};
+ghost use Rattle.sweeping.specs.Tables.{lowerStart};
 
 // Where they start: the table of the successors without a removal, and that of those with one.
 pub struct Starts {

@@ -26,10 +26,11 @@ use Rattle.outcomes.proofs.Ranked.{unrank-in}
 use Rattle.outcomes.proofs.PairGame.{OnPair, InPair, on-pair, pair-table}
 use Rattle.outcomes.proofs.Entries.{entry-unrank, kept-then}
 use Rattle.outcomes.proofs.PairLevels.{pair-live, live-pair, pair-ground, pair-entry}
-use Rattle.solver.specs.declared.tables.Table.{Table}
-use Rattle.solver.specs.Levels.{openDecided, PairFound, pairFilled}
+use Rattle.sweeping.specs.declared.tables.Table.{Table}
+use Rattle.sweeping.specs.Levels.{openDecided}
+use Rattle.solver.specs.Pairs.{PairFound, pairFilled}
 use Rattle.solver.specs.Solve.{Setting}
-use Rattle.solver.proofs.Sweeping.{Side, decided-is}
+use Rattle.sweeping.proofs.Visits.{Side, decided-is}
 use Rattle.solver.proofs.Parts.{first-side, second-side, pair-kept, pair-filled}
 use Rattle.solver.proofs.States.{State, Rank, in-first, in-second, rank-of}
 use Rattle.solver.proofs.NextLevel.{setting-now}
@@ -113,8 +114,8 @@ module _ (rings k m o : ℕ) (a b : Table) (before : List ℕ) (s : Setting (len
             let d = sym (look x y r t same side h) ∙ g in
             let v = eqb-true (entryAt rings k now c) drawEntry (and-left _ _ d) in
             let far = beyond (next rings) (λ z. pairSeed rings k m o before z) (OnPair rings m o) (pair-ground rings k m o (s .pair) before valid) level low
-                (λ z. successorEntry rings k now z) (st .exact) c (on-pair i) (pair-live rings k m o (s .pair) before valid c i)
-                (pair-entry rings k m o (s .pair) before valid now c i ∙ v) (and-right (eqb (entryAt rings k now c) drawEntry) _ d) in
+            (λ z. successorEntry rings k now z) (st .exact) c (on-pair i) (pair-live rings k m o (s .pair) before valid c i)
+            (pair-entry rings k m o (s .pair) before valid now c i ∙ v) (and-right (eqb (entryAt rings k now c) drawEntry) _ d) in
             subst (TooDeep rings k limit (BothTables m o) (λ z. pairSeed rings k m o before z) before) (sym e) record {
               kept = kept-then rings k (BothTables m o) before now (pairFilled a b voidEntry now) (st .kept) (pair-kept rings k m o a b now here voidEntry);
               void = λ u w q t′ l. sym (entry-unrank rings k u w q (pairFilled a b voidEntry now) l)

@@ -1,19 +1,18 @@
 -- Void in the lower part of a table is void in the table that a removal leads to. Assumes nothing.
 use mathlib.Core.Path.{_≡_, refl, sym, ap, ap₂, _∙_}
 use mathlib.Core.Bool.{Bool, true, false, _&&_}
-use mathlib.Core.List.{List, [], _∷_}
+use mathlib.Core.List.{List}
 use Prim.Native.Nat.{ℕ, _-_, _*_, _≤_}
 use native.Mathlib.Omega.{arith}
 use lib.Dec.{eqb, leb}
-use lib.ListN.{take, drop}
 use borrow.Author.Tests.{eqb-true, eqb-false, le-leb}
 use Rattle.lists.specs.Lists.{any}
 use Rattle.outcomes.specs.Places.{isVoid, tableVoid}
 use Rattle.outcomes.proofs.Voids.{part-void}
 use Rattle.parts.specs.Parts.{partOf}
-use Rattle.solver.specs.declared.tables.Table.{Table}
-use Rattle.solver.specs.Tables.{lowerStart, lowerEnd, Located}
-use Rattle.solver.proofs.Probed.{lower-starts}
+use Rattle.sweeping.specs.declared.tables.Table.{Table}
+use Rattle.sweeping.specs.Tables.{lowerStart, lowerEnd, Located}
+use Rattle.sweeping.proofs.Probed.{lower-starts}
 use Rattle.solver.proofs.NextLevel.{lower-ends}
 
 pub lower-part-void : (rings k m o : ℕ) (t : Table) → Located (8 * rings) k m o t → 3 ≤ o → (tablebase : List ℕ)

@@ -23,11 +23,11 @@ use Rattle.outcomes.proofs.Entries.{entry-place, entry-two, entry-three}
 use Rattle.outcomes.proofs.PairLevels.{pair-ground}
 use Rattle.parts.specs.Parts.{partOf, leastFrom}
 use Rattle.parts.proofs.LeastDepth.{least-cases, part-below}
-use Rattle.solver.specs.declared.tables.Table.{Table}
-use Rattle.solver.specs.Tables.{lowerStart, lowerEnd, Located}
-use Rattle.solver.specs.Levels.{InRoom, pairSwept, pairLeast, levelAfter}
+use Rattle.sweeping.specs.declared.tables.Table.{Table}
+use Rattle.sweeping.specs.Tables.{lowerStart, lowerEnd, Located}
+use Rattle.solver.specs.Pairs.{InRoom, pairSwept, pairLeast, levelAfter}
 use Rattle.solver.specs.Solve.{Setting}
-use Rattle.solver.proofs.Probed.{lower-starts}
+use Rattle.sweeping.proofs.Probed.{lower-starts}
 use Rattle.solver.proofs.Parts.{in-range, turned-pair, part-end, part-room, part-place}
 use Rattle.solver.proofs.States.{ExactBelow, State, exact-most, swept-level}
 

@@ -12,9 +12,10 @@ use Rattle.sizes.specs.Size.{size}
 use Rattle.game.specs.Game.{voidEntry}
 use Rattle.parts.specs.Parts.{partOf, leastFrom}
 use Rattle.parts.proofs.LeastDepth.{least-cases}
-use Rattle.solver.specs.declared.tables.Table.{Table}
-use Rattle.solver.specs.Levels.{swept, openDecided, Found, PairFound, pairSwept, pairLeast, levelAfter}
-use Rattle.solver.proofs.AtRank.{place-length}
+use Rattle.sweeping.specs.declared.tables.Table.{Table}
+use Rattle.sweeping.specs.Levels.{swept, openDecided, Found}
+use Rattle.solver.specs.Pairs.{PairFound, pairSwept, pairLeast, levelAfter}
+use Rattle.sweeping.proofs.AtRank.{place-length}
 
 pub swept-length : (rings : ℕ) (t : Table) (same level : ℕ) (now : List ℕ) (n : ℕ) → length (swept rings t same level now n) ≡ length now
 unfolding swept

@@ -17,12 +17,13 @@ use Rattle.outcomes.proofs.PairGame.{InPair}
 use Rattle.outcomes.proofs.Entries.{entry-place, kept-then}
 use Rattle.parts.specs.Parts.{filledPart}
 use Rattle.parts.proofs.Filling.{filled-length, filled-in, filled-cases}
-use Rattle.solver.specs.declared.tables.Table.{Table}
-use Rattle.solver.specs.Tables.{Located}
-use Rattle.solver.specs.Levels.{Fits, pairFilled}
+use Rattle.sweeping.specs.declared.tables.Table.{Table}
+use Rattle.sweeping.specs.Tables.{Located}
+use Rattle.sweeping.specs.Levels.{Fits}
+use Rattle.solver.specs.Pairs.{pairFilled}
 use Rattle.solver.specs.Solve.{Setting}
-use Rattle.solver.proofs.Probed.{reads-within}
-use Rattle.solver.proofs.Sweeping.{Side}
+use Rattle.sweeping.proofs.Probed.{reads-within}
+use Rattle.sweeping.proofs.Visits.{Side}
 
 -- a table of a pair, whichever of the two
 pub in-range : {rings k m o x y : ℕ} → Pair rings k m o → BothTables m o x y → InRange k x y

@@ -25,10 +25,11 @@ use Rattle.outcomes.proofs.Ranked.{InTable, unrank-of, rank-in}
 use Rattle.outcomes.proofs.PairGame.{own, OnPair, InPair, on-pair}
 use Rattle.outcomes.proofs.Entries.{kept-then}
 use Rattle.outcomes.proofs.PairLevels.{Amid, pair-live, live-pair, pair-ground, pair-seeded, pair-entry}
-use Rattle.solver.specs.declared.tables.Table.{Table}
-use Rattle.solver.specs.Levels.{swept, pairSwept, pairFilled}
+use Rattle.sweeping.specs.declared.tables.Table.{Table}
+use Rattle.sweeping.specs.Levels.{swept}
+use Rattle.solver.specs.Pairs.{pairSwept, pairFilled}
 use Rattle.solver.specs.Solve.{Setting}
-use Rattle.solver.proofs.Sweeping.{swept-kept, Done, earlier, ranked-below, swept-amid}
+use Rattle.sweeping.proofs.Visits.{swept-kept, Done, earlier, ranked-below, swept-amid}
 use Rattle.solver.proofs.Parts.{first-side, second-side, pair-kept, pair-filled}
 
 module _ (rings k m o : ℕ) (a b : Table) (before : List ℕ) (s : Setting (length before) rings k m o a b) (valid : LowerValid rings k m o before) where

@@ -1,3 +1,2 @@
-pub mod Tables
-pub mod Levels
+pub mod Pairs
 pub mod Solve

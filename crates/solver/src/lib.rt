@@ -1,8 +1,7 @@
 // The solver: a pair of tables level by level, and a whole tablebase pair by pair, in place.
-mod levels;
 mod pairs;
-mod tables;
 mod whole;
 
 pub use whole::lower_void;
+pub use whole::solve_all;
 pub use whole::solve_pair;

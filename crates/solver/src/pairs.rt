@@ -7,11 +7,11 @@ ghost use Rattle.sizes.specs.Binomial.{BinomialTable};
 ghost use Rattle.plies.specs.Masks.{NeighbourMasks, MillMasks};
 ghost use Rattle.game.specs.Game.{voidEntry};
 ghost use Rattle.outcomes.specs.Pair.{LowerValid};
-ghost use Rattle.solver.specs.Levels.{Fits, InRoom, pairSwept, pairFilled, pairLeast, levelAfter, PairFound};
+ghost use Rattle.sweeping.specs.Levels.{Fits};
+ghost use Rattle.solver.specs.Pairs.{InRoom, pairSwept, pairFilled, pairLeast, levelAfter, PairFound};
 ghost use Rattle.solver.specs.Solve.{Setting, PairFill};
-use super::levels;
-use super::levels::DRAW;
-use super::tables::Table;
+use sweeping::DRAW;
+use sweeping::Table;
 
 // The entry of a position that is not to be used.
 pub const VOID: u16 = 65534;
@@ -35,12 +35,26 @@ fn sweep_pair(
 {
     let one = first.own;
     let two = second.own;
-    levels::sweep_table(
-        tablebase, binomials, near, mills, rings, first, two.start, level,
+    sweeping::sweep_table(
+        tablebase,
+        binomials,
+        near,
+        mills,
+        rings,
+        first,
+        two.start,
+        level,
     );
     if first.mover != first.opponent {
-        levels::sweep_table(
-            tablebase, binomials, near, mills, rings, second, one.start, level,
+        sweeping::sweep_table(
+            tablebase,
+            binomials,
+            near,
+            mills,
+            rings,
+            second,
+            one.start,
+            level,
         );
     }
 }
@@ -63,12 +77,10 @@ fn pair_decided(
 {
     let one = first.own;
     let two = second.own;
-    if levels::some_decided(tablebase, binomials, near, mills, rings, first, two.start) {
+    if sweeping::some_decided(tablebase, binomials, near, mills, rings, first, two.start) {
         return true;
     }
-    levels::some_decided(
-        tablebase, binomials, near, mills, rings, second, one.start,
-    )
+    sweeping::some_decided(tablebase, binomials, near, mills, rings, second, one.start)
 }
 
 // Both tables filled with one value.
@@ -142,7 +154,14 @@ pub fn solve_tables(
     let mut level: u16 = 0;
     while level <= limit {
         sweep_pair(
-            tablebase, binomials, near, mills, rings, first, second, level,
+            tablebase,
+            binomials,
+            near,
+            mills,
+            rings,
+            first,
+            second,
+            level,
         );
         level = level_after(tablebase, first, second, level);
     }

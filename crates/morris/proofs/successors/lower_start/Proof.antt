@@ -1,7 +1,7 @@
 -- `morris::successors::lower_start` meets its contract. Assumes nothing.
 use mathlib.Core.Path.{sym, _∙_}
 use native.Mathlib.Omega.{arith}
-use Rattle.solver.proofs.Probed.{lower-none, lower-starts}
+use Rattle.sweeping.proofs.Probed.{lower-none, lower-starts}
 use borrow.Author.Needs.{needs}
 use Rattle.morris.proofs.successors.lower_start.Statement.{statement}
 use Rattle.morris.proofs.successors.lower_start.Tie as tie

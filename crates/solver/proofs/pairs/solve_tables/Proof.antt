@@ -6,7 +6,7 @@ use native.Mathlib.Omega.{arith}
 use lib.ListN.{length}
 use Rattle.game.specs.Game.{drawEntry}
 use Rattle.outcomes.specs.Pair.{LowerValid}
-use Rattle.solver.specs.Levels.{PairFound, pairFilled}
+use Rattle.solver.specs.Pairs.{PairFound, pairFilled}
 use Rattle.solver.specs.Solve.{Setting}
 use Rattle.solver.proofs.Parts.{first-fits, second-fits}
 use Rattle.solver.proofs.States.{State, state-start}

@@ -3,7 +3,7 @@ use mathlib.Core.Path.{sym, ap, subst, _∙_}
 use Prim.Native.Nat.{ℕ, _*_}
 use lib.ListN.{length}
 use Rattle.sizes.specs.Size.{size}
-use Rattle.solver.specs.Levels.{Fits}
+use Rattle.sweeping.specs.Levels.{Fits}
 use Rattle.solver.proofs.PairSteps.{swept-length, pair-once, pair-twice}
 use borrow.Author.Needs.{needs}
 use Rattle.solver.proofs.pairs.sweep_pair.Statement.{statement}
@@ -19,8 +19,7 @@ sweep-table-requires-2 c κs =
     let s = c .before .before .before .before .before .before .before .before .before .before in
     let a = s .args in
     let e = ap length (c .before .before .before .before .before .sweep-table .ensures)
-        ∙ swept-length (a .rings) (a .first) (a .second .own .start) (a .level) (a .tablebase .now) (size (8 * a .rings) (a .first .mover) (a .first .opponent)) in
-    (
+    ∙ swept-length (a .rings) (a .first) (a .second .own .start) (a .level) (a .tablebase .now) (size (8 * a .rings) (a .first .mover) (a .first .opponent)) in (
       s .pre .0,
       (
         s .pre .1 .0,

@@ -1,5 +1,5 @@
 -- `solver::whole::lower_void` meets its contract. Assumes nothing.
-use mathlib.Core.Path.{_≡_, refl, sym, ap, ap₂, subst, _∙_}
+use mathlib.Core.Path.{sym, ap₂, _∙_}
 use mathlib.Core.Bool.{Bool, _||_}
 use Rattle.outcomes.proofs.Voids.{lower-void}
 use Rattle.solver.proofs.Parts.{turned-pair}
@@ -9,10 +9,6 @@ use lib.ListN.{length}
 use borrow.Author.Needs.{needs}
 use Rattle.solver.proofs.whole.lower_void.Statement.{statement}
 use Rattle.solver.proofs.whole.lower_void.Tie as tie
-use Rattle.solver.proofs.whole.lower_void.Reads as reads
-use Rattle.solver.proofs.whole.lower_void.Lts as lts
-use Rattle.parts.proofs.void_within.Reads as void-within-reads
-use Rattle.solver.proofs.tables.table_of.Reads as table-of-reads
 
 mul-table-of : tie.Need-mul-table-of
 mul-table-of c = search needs

@@ -1,7 +1,5 @@
 -- `solver::whole::solve_pair` meets its contract. Assumes nothing.
-use mathlib.Core.Path.{_≡_, refl, sym, ap, ap₂, subst, _∙_}
-use mathlib.Core.Bool.{Bool}
-use mathlib.Core.List.{List}
+use mathlib.Core.Path.{_≡_, sym, subst}
 use Prim.Native.Nat.{ℕ}
 use lib.ListN.{length}
 use Rattle.outcomes.specs.Pair.{LowerValid}
@@ -9,10 +7,6 @@ use Rattle.solver.specs.Solve.{Setting, PairFill}
 use borrow.Author.Needs.{needs}
 use Rattle.solver.proofs.whole.solve_pair.Statement.{statement}
 use Rattle.solver.proofs.whole.solve_pair.Tie as tie
-use Rattle.solver.proofs.whole.solve_pair.Reads as reads
-use Rattle.solver.proofs.whole.solve_pair.Lts as lts
-use Rattle.solver.proofs.pairs.solve_tables.Reads as solve-tables-reads
-use Rattle.solver.proofs.tables.table_of.Reads as table-of-reads
 
 -- what holds of the counts holds of a table's
 by-counts : (P : ℕ → ℕ → Type 0) {x y m o : ℕ} → x ≡ m → y ≡ o → P m o → P x y
@@ -34,8 +28,7 @@ solve-tables-requires : tie.Need-solve-tables-requires
 solve-tables-requires c κs =
     let s = c .before .before .before .before in
     let a = s .args in
-    let t = c .before .before .table-of .ensures in
-    (
+    let t = c .before .before .table-of .ensures in (
       s .pre .0,
       (
         s .pre .1 .0,

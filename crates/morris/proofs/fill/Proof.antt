@@ -1,0 +1,91 @@
+-- `morris::fill` meets its contract: turned back with the tablebase as it was, or what the solver leaves. Assumes nothing.
+use mathlib.Core.Path.{_≡_, sym, subst, _∙_}
+use mathlib.Core.Bool.{Bool}
+use native.Mathlib.Omega.{arith}
+use lib.ListN.{length}
+use Rattle.solver.specs.Solve.{WholeFill}
+use Rattle.morris.specs.Refusals.{refusal}
+use Rattle.morris.specs.Conditions.{fillPicks}
+use Rattle.morris.proofs.TablebaseConditions.{AcceptedFill, accepted-fill}
+use Rattle.morris.proofs.Promised.{fill-last, promise-refused, promise-deep, promise-filled}
+use borrow.Author.Needs.{needs}
+use Rattle.morris.proofs.fill.Statement.{statement}
+use Rattle.morris.proofs.fill.Tie as tie
+
+-- past the refusals
+none : (c : tie.Else1)
+    → 0 ≡ refusal (fillPicks (c .before .before .before .before .before .args .rings) (c .before .before .before .before .before .args .k) (c .before .before .before .before .before .args .limit) (length (c .before .before .before .before .before .args .tablebase .now)))
+none c = sym (c .if1 .left) ∙ c .before .of-fill .ensures
+
+known : (c : tie.Else1) → AcceptedFill (c .before .before .before .before .before .args .rings) (c .before .before .before .before .before .args .k) (c .before .before .before .before .before .args .limit) (length (c .before .before .before .before .before .args .tablebase .now))
+known c = accepted-fill _ _ _ _ (sym (none c))
+
+binomial-table-requires : tie.Need-binomial-table-requires
+binomial-table-requires c κs = search needs
+
+of-fill-requires : tie.Need-of-fill-requires
+of-fill-requires c κs = search needs
+
+returns : tie.Need-returns
+returns c =
+    let a = c .before .before .before .before .before .args in
+    promise-refused (fillPicks (a .rings) (a .k) (a .limit) (length (a .tablebase .now))) (fill-last (a .rings) (a .k) (a .limit) (length (a .tablebase .now)))
+    (λ (deep : Bool). WholeFill (a .rings) (a .k) (a .limit) (a .tablebase .now) (a .tablebase .now) deep) (a .tablebase .now) (a .tablebase .now) (c .before .of-fill .result) (c .if1 .taken) (c .before .of-fill .ensures)
+
+neighbour-masks-requires : tie.Need-neighbour-masks-requires
+neighbour-masks-requires c κs = known c .tablebase .rings-high
+
+mill-masks-requires : tie.Need-mill-masks-requires
+mill-masks-requires c κs = let w = known (c .before) in (w .tablebase .rings-low, w .tablebase .rings-high)
+
+cast-solve-all : tie.Need-cast-solve-all
+cast-solve-all c = omega (arith, known (c .before .before .before .before .before .before) .limit-high)
+
+solve-all-requires : tie.Need-solve-all-requires
+solve-all-requires c κs =
+    let w = known (c .before .before .before .before .before .before) in (
+      c .before .before .before .before .before .before .before .before .before .binomial-table .ensures,
+      (
+        c .before .before .before .before .before .neighbour-masks .ensures,
+        (
+          c .before .before .before .before .mill-masks .ensures,
+          (w .tablebase .rings-high, w .tablebase .largest-low, w .tablebase .largest-high, w .tablebase .exact, omega (arith, w .limit-high)),
+        ),
+      ),
+    )
+
+same-length : tie.Need-same-length
+same-length c = search needs
+
+returns-2 : tie.Need-returns-2
+returns-2 c =
+    let a = c .before .before .before .before .before .before .before .before .before .before .before .before .before .before .before .args in
+    promise-deep (fillPicks (a .rings) (a .k) (a .limit) (length (a .tablebase .now))) (fill-last (a .rings) (a .k) (a .limit) (length (a .tablebase .now)))
+    (λ (deep : Bool). WholeFill (a .rings) (a .k) (a .limit) (a .tablebase .now) (c .before .before .before .solve-all .last .0) deep) (a .tablebase .now) (c .before .before .before .solve-all .last .0) (none (c .before .before .before .before .before .before .before .before .before .before))
+    (subst (λ (deep : Bool). WholeFill (a .rings) (a .k) (a .limit) (a .tablebase .now) (c .before .before .before .solve-all .last .0) deep) (c .if2 .taken) (c .before .before .before .solve-all .ensures))
+
+same-length-2 : tie.Need-same-length-2
+same-length-2 c = search needs
+
+returns-3 : tie.Need-returns-3
+returns-3 c =
+    let a = c .before .before .before .before .before .before .before .before .before .before .before .before .before .before .before .args in
+    promise-filled (fillPicks (a .rings) (a .k) (a .limit) (length (a .tablebase .now))) (fill-last (a .rings) (a .k) (a .limit) (length (a .tablebase .now)))
+    (λ (deep : Bool). WholeFill (a .rings) (a .k) (a .limit) (a .tablebase .now) (c .before .before .before .solve-all .last .0) deep) (a .tablebase .now) (c .before .before .before .solve-all .last .0) (none (c .before .before .before .before .before .before .before .before .before .before))
+    (subst (λ (deep : Bool). WholeFill (a .rings) (a .k) (a .limit) (a .tablebase .now) (c .before .before .before .solve-all .last .0) deep) (c .if2 .left) (c .before .before .before .solve-all .ensures))
+
+pub fill-spec : {M : Type 1} → statement M
+fill-spec =
+    tie.close
+    (tie.spec
+    binomial-table-requires
+    of-fill-requires
+    returns
+    neighbour-masks-requires
+    mill-masks-requires
+    cast-solve-all
+    solve-all-requires
+    same-length
+    returns-2
+    same-length-2
+    returns-3)

@@ -1,0 +1,153 @@
+-- `morris::fill_pair` meets its contract: turned back with the tablebase as it was, or what the solver leaves. Assumes nothing.
+use mathlib.Core.Path.{_≡_, sym, ap, subst, _∙_}
+use mathlib.Core.Bool.{Bool, true, false, cond}
+use mathlib.Core.List.{List}
+use Prim.Native.Nat.{ℕ}
+use native.Mathlib.Omega.{arith}
+use lib.ListN.{length}
+use Rattle.outcomes.specs.Places.{lowerVoid}
+use Rattle.outcomes.specs.Pair.{Pair}
+use Rattle.outcomes.proofs.Voids.{void-free}
+use Rattle.solver.specs.Solve.{PairFill}
+use Rattle.morris.specs.Refusals.{refusal}
+use Rattle.morris.specs.Conditions.{tablesPicks, pairPicks}
+use Rattle.morris.proofs.TablebaseConditions.{AcceptedPair, accepted-pair, pair-refused, pair-decides}
+use Rattle.morris.proofs.Promised.{pair-last, promise-refused, promise-deep, promise-filled}
+use borrow.Author.Needs.{needs}
+use Rattle.morris.proofs.fill_pair.Statement.{statement}
+use Rattle.morris.proofs.fill_pair.Tie as tie
+
+-- past the first refusals
+none : (c : tie.Else1) → 0 ≡ refusal (tablesPicks (c .before .before .before .before .before .args .rings) (c .before .before .before .before .before .args .mover) (c .before .before .before .before .before .args .opponent) (c .before .before .before .before .before .args .k)
+    (c .before .before .before .before .before .args .limit) (length (c .before .before .before .before .before .args .tablebase .now)))
+none c = sym (c .if1 .left) ∙ c .before .of-pair .ensures
+
+known : (c : tie.Else1) → AcceptedPair (c .before .before .before .before .before .args .rings) (c .before .before .before .before .before .args .mover) (c .before .before .before .before .before .args .opponent) (c .before .before .before .before .before .args .k)
+    (c .before .before .before .before .before .args .limit) (length (c .before .before .before .before .before .args .tablebase .now))
+known c = accepted-pair _ _ _ _ _ _ (sym (none c))
+
+is-pair : (c : tie.Else1) → Pair (c .before .before .before .before .before .args .rings) (c .before .before .before .before .before .args .k) (c .before .before .before .before .before .args .mover) (c .before .before .before .before .before .args .opponent)
+is-pair c =
+    let w = known c in
+    record {
+      small = w .tablebase .rings-high;
+      mover-low = w .is-table .mover-low;
+      mover-high = w .is-table .mover-high;
+      opponent-low = w .is-table .opponent-low;
+      opponent-high = w .is-table .opponent-high;
+    }
+
+-- whether a lower entry is void decides
+decided : (c : tie.Else1) (t : Bool) → lowerVoid (c .before .before .before .before .before .args .rings) (c .before .before .before .before .before .args .k) (c .before .before .before .before .before .args .tablebase .now) (c .before .before .before .before .before .args .mover) (c .before .before .before .before .before .args .opponent) ≡ t
+    → refusal (pairPicks (c .before .before .before .before .before .args .rings) (c .before .before .before .before .before .args .mover) (c .before .before .before .before .before .args .opponent) (c .before .before .before .before .before .args .k) (c .before .before .before .before .before .args .limit)
+    (c .before .before .before .before .before .args .tablebase .now)) ≡ cond t 12 0
+decided c t e =
+    let a = c .before .before .before .before .before .args in
+    pair-decides (a .rings) (a .mover) (a .opponent) (a .k) (a .limit) (a .tablebase .now) (none c) ∙ ap (λ (u : Bool). cond u 12 0) e
+
+binomial-table-requires : tie.Need-binomial-table-requires
+binomial-table-requires c κs = search needs
+
+of-pair-requires : tie.Need-of-pair-requires
+of-pair-requires c κs = search needs
+
+returns : tie.Need-returns
+returns c =
+    let a = c .before .before .before .before .before .args in
+    let n = c .before .of-pair .result in
+    promise-refused (pairPicks (a .rings) (a .mover) (a .opponent) (a .k) (a .limit) (a .tablebase .now)) (pair-last (a .rings) (a .mover) (a .opponent) (a .k) (a .limit) (a .tablebase .now))
+    (λ (deep : Bool). PairFill (a .rings) (a .k) (a .mover) (a .opponent) (a .limit) (a .tablebase .now) (a .tablebase .now) deep) (a .tablebase .now) (a .tablebase .now)
+    n (c .if1 .taken) (pair-refused (a .rings) (a .mover) (a .opponent) (a .k) (a .limit) (a .tablebase .now) n (c .if1 .taken) (c .before .of-pair .ensures))
+
+lower-void-requires : tie.Need-lower-void-requires
+lower-void-requires c κs =
+    let x = c .before .before in
+    let w = known x in
+    (x .before .before .before .binomial-table .ensures, (is-pair x, w .tablebase .largest-high, w .tablebase .exact))
+
+same-length : tie.Need-same-length
+same-length c = search needs
+
+returns-2 : tie.Need-returns-2
+returns-2 c =
+    let x = c .before .before .before .before in
+    let a = x .before .before .before .before .before .args in
+    promise-refused (pairPicks (a .rings) (a .mover) (a .opponent) (a .k) (a .limit) (a .tablebase .now)) (pair-last (a .rings) (a .mover) (a .opponent) (a .k) (a .limit) (a .tablebase .now))
+    (λ (deep : Bool). PairFill (a .rings) (a .k) (a .mover) (a .opponent) (a .limit) (a .tablebase .now) (a .tablebase .now) deep) (a .tablebase .now) (a .tablebase .now)
+    12 (λ z. absurd (omega arith)) (sym (decided x true (sym (c .before .lower-void .ensures) ∙ c .if2 .taken)))
+
+neighbour-masks-requires : tie.Need-neighbour-masks-requires
+neighbour-masks-requires c κs = known (c .before .before .before .before) .tablebase .rings-high
+
+mill-masks-requires : tie.Need-mill-masks-requires
+mill-masks-requires c κs = let w = known (c .before .before .before .before .before) in (w .tablebase .rings-low, w .tablebase .rings-high)
+
+cast-solve-pair : tie.Need-cast-solve-pair
+cast-solve-pair c = omega (arith, known (c .before .before .before .before .before .before .before .before .before .before) .limit-high)
+
+solve-pair-requires : tie.Need-solve-pair-requires
+solve-pair-requires c κs =
+    let x = c .before .before .before .before .before .before .before .before .before .before in
+    let a = x .before .before .before .before .before .args in
+    let w = known x in (
+      c .before .before .before .before .before .before .before .before .before .before .before .before .before .binomial-table .ensures,
+      (
+        c .before .before .before .before .before .neighbour-masks .ensures,
+        (
+          c .before .before .before .before .mill-masks .ensures,
+          (
+            (is-pair x, w .tablebase .largest-high, w .tablebase .exact),
+            (
+              void-free (a .rings) (a .k) (a .tablebase .now) (w .tablebase .exact) (λ i. omega (arith, x .before .before .before .before .slice-known .given i)) (a .mover) (a .opponent) (is-pair x)
+                  (sym (c .before .before .before .before .before .before .before .lower-void .ensures) ∙ c .before .before .before .before .before .before .if2 .left),
+              omega (arith, w .limit-high),
+            ),
+          ),
+        ),
+      ),
+    )
+
+same-length-2 : tie.Need-same-length-2
+same-length-2 c = search needs
+
+returns-3 : tie.Need-returns-3
+returns-3 c =
+    let x = c .before .before .before .before .before .before .before .before .before .before .before .before .before .before in
+    let a = x .before .before .before .before .before .args in
+    let after : List ℕ = c .before .before .before .solve-pair .last .0 in
+    promise-deep (pairPicks (a .rings) (a .mover) (a .opponent) (a .k) (a .limit) (a .tablebase .now)) (pair-last (a .rings) (a .mover) (a .opponent) (a .k) (a .limit) (a .tablebase .now))
+    (λ (deep : Bool). PairFill (a .rings) (a .k) (a .mover) (a .opponent) (a .limit) (a .tablebase .now) (after) deep) (a .tablebase .now) after
+    (sym (decided x false (sym (c .before .before .before .before .before .before .before .before .before .before .before .lower-void .ensures) ∙ c .before .before .before .before .before .before .before .before .before .before .if2 .left)))
+    (subst (λ (deep : Bool). PairFill (a .rings) (a .k) (a .mover) (a .opponent) (a .limit) (a .tablebase .now) (after) deep) (c .if3 .taken) (c .before .before .before .solve-pair .ensures))
+
+same-length-3 : tie.Need-same-length-3
+same-length-3 c = search needs
+
+returns-4 : tie.Need-returns-4
+returns-4 c =
+    let x = c .before .before .before .before .before .before .before .before .before .before .before .before .before .before in
+    let a = x .before .before .before .before .before .args in
+    let after : List ℕ = c .before .before .before .solve-pair .last .0 in
+    promise-filled (pairPicks (a .rings) (a .mover) (a .opponent) (a .k) (a .limit) (a .tablebase .now)) (pair-last (a .rings) (a .mover) (a .opponent) (a .k) (a .limit) (a .tablebase .now))
+    (λ (deep : Bool). PairFill (a .rings) (a .k) (a .mover) (a .opponent) (a .limit) (a .tablebase .now) (after) deep) (a .tablebase .now) after
+    (sym (decided x false (sym (c .before .before .before .before .before .before .before .before .before .before .before .lower-void .ensures) ∙ c .before .before .before .before .before .before .before .before .before .before .if2 .left)))
+    (subst (λ (deep : Bool). PairFill (a .rings) (a .k) (a .mover) (a .opponent) (a .limit) (a .tablebase .now) (after) deep) (c .if3 .left) (c .before .before .before .solve-pair .ensures))
+
+pub fill-pair-spec : {M : Type 1} → statement M
+fill-pair-spec =
+    tie.close
+    (tie.spec
+    binomial-table-requires
+    of-pair-requires
+    returns
+    lower-void-requires
+    same-length
+    returns-2
+    neighbour-masks-requires
+    mill-masks-requires
+    cast-solve-pair
+    solve-pair-requires
+    same-length-2
+    returns-3
+    same-length-3
+    returns-4)

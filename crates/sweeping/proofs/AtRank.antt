@@ -1,0 +1,100 @@
+-- The position of a rank of a table: it is placed, stands for the board of that rank, and its successors can be read. And one place of a table at a
+-- level, by the tests that the code makes. Assumes nothing.
+use mathlib.Core.Path.{_≡_, refl, sym, ap, ap₂, subst, _∙_}
+use mathlib.Core.Bool.{Bool, true, false, _&&_}
+use mathlib.Core.List.{List}
+use Prim.Native.Nat.{ℕ, _+_, _*_, _<_}
+use native.Mathlib.Numerals.{add-one}
+use lib.ListN.{length, set, length-set}
+use Rattle.board.specs.declared.position.Position.{Position}
+use Rattle.board.specs.Board.{positionOf, boardOf, count, OnBoard}
+use Rattle.board.proofs.Sides.{board-position, position-on}
+use Rattle.sizes.specs.Size.{size}
+use Rattle.ranking.specs.Unrank.{unrank}
+use Rattle.ranking.proofs.Inverse.{rank-unrank}
+use Rattle.plies.specs.Positions.{Placed}
+use Rattle.game.specs.Judgement.{hit, decided}
+use Rattle.outcomes.specs.Whole.{next}
+use Rattle.probing.specs.Probes.{probe, Reads}
+use Rattle.sweeping.specs.declared.tables.Table.{Table}
+use Rattle.sweeping.specs.Levels.{Fits, isOpen, ranked, judged, sweptPlace, swept, openDecided}
+
+pub record AtRank (n rings : ℕ) (t : Table) (same r : ℕ) (p : Position) : Type 0 where
+  pub placed : Placed rings p
+  pub board-is : boardOf (8 * rings) p ≡ ranked rings t same r
+  pub opponent-is : count 2 (boardOf (8 * rings) p) ≡ t .opponent
+  pub reads : Reads n (8 * rings) (count 1 (boardOf (8 * rings) p)) (count 2 (boardOf (8 * rings) p)) same (t .lower .start)
+
+pub at-rank : (n rings : ℕ) (t : Table) (same r : ℕ) (p : Position) → Fits n rings t same → r < size (8 * rings) (t .mover) (t .opponent)
+    → p ≡ positionOf (unrank (8 * rings) (t .mover) (t .opponent) r) → AtRank n rings t same r p
+at-rank n rings t same r p f h e =
+    let b : List ℕ = unrank (8 * rings) (t .mover) (t .opponent) r in
+    let w = rank-unrank (8 * rings) (t .mover) (t .opponent) r h in
+    let is : boardOf (8 * rings) p ≡ b =
+    ap (boardOf (8 * rings)) e ∙ ap (λ (m : ℕ). boardOf m (positionOf b)) (sym (w .points)) ∙ board-position b (w .values) in
+    record {
+      placed = record {
+        small = f .small;
+        on = subst (λ (q : Position). OnBoard (8 * rings) q) (sym e) (subst (λ (m : ℕ). OnBoard m (positionOf b)) (w .points) (position-on b));
+      };
+      board-is = is;
+      opponent-is = ap (count 2) is ∙ w .opponent;
+      reads = subst (λ (x : ℕ). Reads n (8 * rings) x (count 2 (boardOf (8 * rings) p)) same (t .lower .start)) (sym (ap (count 1) is ∙ w .mover))
+          (subst (λ (y : ℕ). Reads n (8 * rings) (t .mover) y same (t .lower .start)) (sym (ap (count 2) is ∙ w .opponent)) (f .reads));
+    }
+
+module _ (rings : ℕ) (t : Table) (same r : ℕ) (now : List ℕ) where
+  -- what was read of the successors is what the level goes by
+  module _ (n : ℕ) (p : Position) (w : AtRank n rings t same r p) where
+    pub hit-at : (level : ℕ) → hit (next rings) (λ b. probe now same (t .lower .start) (count 2 (boardOf (8 * rings) p)) b) level (boardOf (8 * rings) p)
+        ≡ hit (next rings) (judged rings t same now) level (ranked rings t same r)
+    hit-at level = ap₂ (λ (y : ℕ) (c : List ℕ). hit (next rings) (λ b. probe now same (t .lower .start) y b) level c) (w .opponent-is) (w .board-is)
+
+    pub decided-at : decided (next rings) (λ b. probe now same (t .lower .start) (count 2 (boardOf (8 * rings) p)) b) (boardOf (8 * rings) p)
+        ≡ decided (next rings) (judged rings t same now) (ranked rings t same r)
+    decided-at = ap₂ (λ (y : ℕ) (c : List ℕ). decided (next rings) (λ b. probe now same (t .lower .start) y b) c) (w .opponent-is) (w .board-is)
+
+  -- a place: closed, hit, or missed
+  pub place-closed : (level : ℕ) → isOpen t now r ≡ false → now ≡ sweptPlace rings t same level now r
+  unfolding sweptPlace
+  place-closed level e = rw (e, sweptPlace)
+
+  pub place-hit : (level : ℕ) → isOpen t now r ≡ true → hit (next rings) (judged rings t same now) level (ranked rings t same r) ≡ true
+      → set now (t .own .start + r) level ≡ sweptPlace rings t same level now r
+  unfolding sweptPlace
+  place-hit level e h = rw (e, h, sweptPlace)
+
+  pub place-missed : (level : ℕ) → hit (next rings) (judged rings t same now) level (ranked rings t same r) ≡ false → now ≡ sweptPlace rings t same level now r
+  unfolding sweptPlace
+  place-missed level h = go (isOpen t now r) refl
+    where
+      go : (b : Bool) → isOpen t now r ≡ b → now ≡ sweptPlace rings t same level now r
+      go true f = rw (f, h, sweptPlace)
+      go false f = rw (f, sweptPlace)
+
+  pub closed-undecided : isOpen t now r ≡ false → false ≡ openDecided rings t same now r
+  unfolding openDecided
+  closed-undecided e = rw (e, openDecided)
+
+  pub open-decided : isOpen t now r ≡ true → (d : Bool) → d ≡ decided (next rings) (judged rings t same now) (ranked rings t same r) → d ≡ openDecided rings t same now r
+  unfolding openDecided
+  open-decided e d h = rw (e, openDecided) h
+
+  -- a sweep writes places and adds none
+  pub place-length : (level : ℕ) → length (sweptPlace rings t same level now r) ≡ length now
+  unfolding sweptPlace
+  place-length level = go (isOpen t now r && hit (next rings) (judged rings t same now) level (ranked rings t same r))
+    where
+      go : (b : Bool) → length {A = ℕ} (elim b as (λ c. List ℕ) [ true ↦ set now (t .own .start + r) level | false ↦ now ]) ≡ length now
+      go true = length-set now (t .own .start + r) level
+      go false = refl
+
+-- the places of a table, one after the other
+module _ (rings : ℕ) (t : Table) (same level : ℕ) (now : List ℕ) where
+  pub swept-none : now ≡ swept rings t same level now 0
+  unfolding swept
+  swept-none = refl
+
+  pub swept-more : (r : ℕ) (l : List ℕ) → l ≡ swept rings t same level now r → sweptPlace rings t same level l r ≡ swept rings t same level now (r + 1)
+  unfolding swept
+  swept-more r l e = rw (e, add-one r)

@@ -1,0 +1,3 @@
+pub mod Probed
+pub mod AtRank
+pub mod Visits

@@ -1,0 +1,57 @@
+-- One level over a table, in place, as a function of the tablebase: what the loops do. Assumes nothing.
+use mathlib.Core.Path.{_≡_}
+use mathlib.Core.Bool.{Bool, true, false, _&&_}
+use mathlib.Core.List.{List}
+use mathlib.Core.Logic.{_⊎_}
+use Prim.Native.Nat.{ℕ, zero, suc, _+_, _*_, _≤_, _<_, min}
+use lib.Dec.{eqb}
+use lib.ListN.{getD, set}
+use Rattle.sizes.specs.Size.{size}
+use Rattle.ranking.specs.Unrank.{unrank}
+use Rattle.game.specs.Game.{drawEntry}
+use Rattle.game.specs.Judgement.{hit, decided}
+use Rattle.outcomes.specs.Whole.{next}
+use Rattle.probing.specs.Probes.{probe, Reads}
+use Rattle.parts.specs.Parts.{partOf, filledPart, leastFrom}
+use Rattle.sweeping.specs.declared.tables.Part.{Part}
+use Rattle.sweeping.specs.declared.tables.Table.{Table}
+
+-- table t, its lower table and the table that starts at `same` lie within a tablebase of a length
+pub record Fits (length rings : ℕ) (t : Table) (same : ℕ) : Type 0 where
+  pub small : rings ≤ 3
+  pub end-is : t .own .end ≡ t .own .start + size (8 * rings) (t .mover) (t .opponent)
+  pub room : t .own .end ≤ length
+  pub reads : Reads length (8 * rings) (t .mover) (t .opponent) same (t .lower .start)
+
+-- an open position of rank r: neither a depth nor void stands there
+unfoldable pub isOpen : Table → List ℕ → ℕ → Bool
+isOpen t tablebase r = eqb (getD tablebase (t .own .start + r) 0) drawEntry
+
+module _ (rings : ℕ) (t : Table) (same : ℕ) where
+  -- the position of rank r, and the entry of one of its successors
+  abbrev pub ranked : ℕ → List ℕ
+  ranked r = unrank (8 * rings) (t .mover) (t .opponent) r
+
+  abbrev pub judged : List ℕ → List ℕ → ℕ
+  judged tablebase b = probe tablebase same (t .lower .start) (t .opponent) b
+
+  -- an open position that the level hits gets it
+  unfoldable pub sweptPlace : ℕ → List ℕ → ℕ → List ℕ
+  sweptPlace level tablebase r = elim (isOpen t tablebase r && hit (next rings) (judged tablebase) level (ranked r)) [
+    | true ↦ set tablebase (t .own .start + r) level
+    | false ↦ tablebase
+  ]
+
+  -- the first n positions
+  unfoldable pub swept : ℕ → List ℕ → ℕ → List ℕ
+  swept level tablebase zero = tablebase
+  swept level tablebase (suc n) = sweptPlace level (swept level tablebase n) n
+
+  -- an open position that its successors decide
+  unfoldable pub openDecided : List ℕ → ℕ → Bool
+  openDecided tablebase r = isOpen t tablebase r && decided (next rings) (judged tablebase) (ranked r)
+
+-- whether some number below n passes a test: one that does, or that none does
+abbrev pub Found : (ℕ → Bool) → ℕ → Bool → Type 0
+Found f n true = (r : ℕ) × (r < n) × (f r ≡ true)
+Found f n false = (r : ℕ) → r < n → f r ≡ false

@@ -1,0 +1,10 @@
+// One level of the solver over one table of a tablebase, in place; and where the tables lie.
+mod levels;
+mod tables;
+
+pub use levels::DRAW;
+pub use levels::some_decided;
+pub use levels::sweep_table;
+pub use tables::Part;
+pub use tables::Table;
+pub use tables::table_of;
