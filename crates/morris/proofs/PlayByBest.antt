@@ -1,10 +1,10 @@
--- Play by best moves on a tablebase that holds the true entries: "from a won entry n, a mover who always takes best moves wins the game in at most n
--- plies". The calls `best_move` and `make_move` answer and make that move. Assumes nothing.
-use mathlib.Core.Path.{_≡_, sym, ap₂, subst, _∙_}
+-- Play by best moves: "On a shelf filled whole by one accepted call and unchanged since, from a won entry n, a mover who always takes best moves wins
+-- the game in at most n plies." The calls `best_move` and `make_move` answer and make that move. Assumes nothing.
+use mathlib.Core.Path.{_≡_, sym, ap, ap₂, subst, _∙_}
 use mathlib.Core.Bool.{Bool, false, cond}
 use mathlib.Core.List.{List, [], _∷_}
 use Prim.Native.Nat.{ℕ, _*_, _≤_, _<_, _%_}
-use lib.ListN.{length}
+use lib.ListN.{length, getD}
 use Rattle.lists.proofs.Tests.{untrue, is-member, empty-none}
 use Rattle.rules.specs.Ply.{removable, listedMoves, afterPly}
 use Rattle.rules.proofs.Listed.{successors-are, successor-of}
@@ -22,13 +22,16 @@ use Rattle.outcomes.proofs.WholeGame.{whole-cases, whole-closed, board-reached,
 use Rattle.bestmove.proofs.Choice.{best-listed}
 use Rattle.bestmove.proofs.QuickestWin.{best-plays}
 use Rattle.morris.specs.Refusals.{refusal}
-use Rattle.morris.specs.Conditions.{moverBlocked, tablebasePicks, bestMovePicks}
+use Rattle.morris.specs.Conditions.{moverBlocked, tablebasePicks, lookupPicks, bestMovePicks}
 use Rattle.morris.specs.Answers.{accepted}
 use Rattle.morris.specs.MakeMoveCall.{makeMoveCall, makeMoveTarget}
+use Rattle.morris.specs.LookupCall.{lookupCall}
 use Rattle.morris.specs.BestMoveCall.{entryAfter, bestListed, bestSuccessor, bestMoveCall}
-use Rattle.morris.proofs.TablebaseConditions.{AcceptedEntry, both-right, accepted-entry, best-move-decides}
+use Rattle.morris.specs.Fills.{FillCall}
+use Rattle.morris.proofs.TablebaseConditions.{AcceptedEntry, both-right, accepted-entry, lookup-before, best-move-decides}
 use Rattle.morris.proofs.Play.{listed-made}
-use Rattle.morris.proofs.Answering.{answer-accepted}
+use Rattle.morris.proofs.Answering.{answer-accepted, accepted-values}
+use Rattle.morris.proofs.ExactEntries.{fill-accepted}
 
 module _ (rings k : ℕ) (tablebase : List ℕ) (entries : TrueEntries rings k (AllTables rings k) tablebase) where
   -- a board with a won entry n
@@ -71,3 +74,37 @@ module _ (rings k : ℕ) (tablebase : List ℕ) (entries : TrueEntries rings k (
     best-made =
         listed-made rings b (both-right rings b k (length tablebase) right .0) (bestListed rings k tablebase b)
         (is-member _ (listedMoves rings b) (best-listed (λ m. entryAfter rings k tablebase b m) (listedMoves rings b) some .0))
+
+-- after an accepted fill, from a board whose entry n is looked up and is won
+module _ (rings k limit : ℕ) (before after : List ℕ) (filled : FillCall rings k limit before after (accepted [])) (b : List ℕ) (n : ℕ)
+    (entry : lookupCall rings b k after ≡ accepted (n ∷ [])) (odd : n % 2 ≡ 1) (low : n < voidEntry) where
+  true-entries : TrueEntries rings k (AllTables rings k) after
+  true-entries = fill-accepted rings k limit before after filled .1 .entries
+
+  looked-up : (refusal (lookupPicks rings b k after) ≡ 0) × (n ∷ [] ≡ entryAt rings k after b ∷ [])
+  unfolding lookupCall
+  looked-up = accepted-values (n ∷ []) (entryAt rings k after b ∷ []) (refusal (lookupPicks rings b k after)) (sym entry)
+
+  right : refusal (tablebasePicks rings b k (length after)) ≡ 0
+  right = lookup-before rings b k after (looked-up .0)
+
+  board : AcceptedEntry rings b k (length after)
+  board = accepted-entry rings b k (length after) right
+
+  entry-is : entryAt rings k after b ≡ n
+  entry-is = sym (ap (λ (l : List ℕ). getD l 0 0) (looked-up .1))
+
+  some : moverBlocked rings b ≡ false
+  some = won-unblocked rings k after true-entries (board .board .rings-high) b (board .in-tables) n entry-is odd low
+
+  pub fill-best-play : Wins (next rings) (λ c. wholeSeed c) (λ c. bestSuccessor rings k after c) n b
+  fill-best-play = best-play rings k after true-entries (board .board .rings-high) b (board .in-tables) n entry-is odd low
+
+  pub fill-best-answered : bestMoveCall rings b k after
+      ≡ accepted (bestListed rings k after b ∷ successorEntry rings k after (bestSuccessor rings k after b) ∷ [])
+  fill-best-answered = best-answered rings k after true-entries b right some
+
+  pub fill-best-made : (old : List ℕ) → length old ≡ 8 * rings
+      → (makeMoveCall rings b (bestListed rings k after b) old ≡ accepted [])
+      × (makeMoveTarget rings b (bestListed rings k after b) old ≡ bestSuccessor rings k after b)
+  fill-best-made = best-made rings k after true-entries b right some

@@ -135,6 +135,12 @@ module _ (rings : ℕ) (b : List ℕ) (k : ℕ) (tablebase : List ℕ) where
       → refusal (lookupPicks rings b k tablebase) ≡ cond (isVoid (entryAt rings k tablebase b)) 12 0
   lookup-decides e = one-more (pickedRows table (tablebasePicks rings b k (length tablebase))) (isVoid (entryAt rings k tablebase b)) 12 refl e
 
+  -- no refusal at all: none before the entry is read
+  pub lookup-before : refusal (lookupPicks rings b k tablebase) ≡ 0 → refusal (tablebasePicks rings b k (length tablebase)) ≡ 0
+  lookup-before e =
+      both-passed (pickedRows table (tablebasePicks rings b k (length tablebase)))
+      (record { holds = isVoid (entryAt rings k tablebase b); number = 12 } ∷ []) refl e .0
+
   -- those of the successors, where the mover is not blocked
   pub best-move-refused : (n : ℕ) → (n ≡ 0 → ⊥) → n ≡ refusal (tablebasePicks rings b k (length tablebase)) → n ≡ refusal (bestMovePicks rings b k tablebase)
   best-move-refused n z e =
