@@ -1,5 +1,5 @@
 -- A board's two sides as sets: what each point's digit says, the count, the bound, and the way back to the board. Assumes nothing.
-use mathlib.Core.Path.{_≡_, refl, ap, ap₂, _∙_, subst}
+use mathlib.Core.Path.{_≡_, refl, ap, ap₂, _∙_, subst, sym}
 use mathlib.Core.Bool.{Bool, true, false}
 use mathlib.Core.List.{List, [], _∷_}
 use Prim.Native.Nat.{ℕ, zero, suc, _+_, _-_, _*_, _/_, _%_, _^_, _≤_, _<_}
@@ -157,3 +157,15 @@ pub board-values : (points : ℕ) (p : Position) → OnBoard points p → Values
 unfolding boardOf valueAt
 board-values points p w =
     values-all (valueAt p) points 0 (λ q h. said (bit (p .mover) q) (bit (p .opponent) q) (w .apart q (omega arith)) .low)
+
+-- a position that was made of a board
+module _ (b : List ℕ) (p : Position) (e : p ≡ positionOf b) where
+  -- the members of each side's set are its stones
+  pub mover-stones : length b ≤ 24 → members (p .mover) 32 ≡ count 1 b
+  mover-stones h = ap (λ (q : Position). members (q .mover) 32) (e ∙ position-sides b) ∙ members-count 1 b h
+
+  pub opponent-stones : length b ≤ 24 → members (p .opponent) 32 ≡ count 2 b
+  opponent-stones h = ap (λ (q : Position). members (q .opponent) 32) (e ∙ position-sides b) ∙ members-count 2 b h
+
+  pub on-board : OnBoard (length b) p
+  on-board = subst (λ (q : Position). OnBoard (length b) q) (sym e) (position-on b)

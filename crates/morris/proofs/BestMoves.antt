@@ -23,9 +23,9 @@ use Rattle.bestmove.specs.Best.{bestEntry, bestMove, entryBy}
 use Rattle.bestmove.proofs.Choice.{best-same, best-listed}
 use Rattle.sweeping.specs.Tables.{lowerStart}
 use Rattle.sweeping.proofs.Probed.{reads-within, probed}
-use Rattle.morris.specs.Conditions.{moverBlocked}
+use Rattle.refusals.specs.Conditions.{moverBlocked}
 use Rattle.morris.specs.BestMoveCall.{entryAfter, bestListed, bestSuccessor}
-use Rattle.morris.proofs.TablebaseConditions.{AcceptedEntry}
+use Rattle.refusals.proofs.TablebaseConditions.{AcceptedEntry}
 
 -- c is the board b, and its successors' tables start there
 pub record Starting (rings k : ℕ) (b c : List ℕ) (same fewer : ℕ) : Type 0 where

@@ -1,6 +1,6 @@
 -- Demand 3 of the calls `fill` and `fill_pair`: every entry of an accepted fill is exact, one fill leaves one tablebase whatever it held before, 13
 -- is answered exactly when some forced end lies beyond the limit, and pairs filled in order make what one fill makes. Assumes nothing.
-use mathlib.Core.Path.{_≡_, refl, sym, ap, subst, _∙_}
+use mathlib.Core.Path.{_≡_, subst}
 use mathlib.Core.Bool.{true, false}
 use mathlib.Core.List.{List, []}
 use mathlib.Core.Logic.{_⊎_, inl, inr}
@@ -16,15 +16,15 @@ use Rattle.game.proofs.Entries.{entry-forced, forced-entry, entry-draw, draw-en
 use Rattle.game.proofs.Outcomes.{same-outcome}
 use Rattle.outcomes.specs.Whole.{next, wholeSeed}
 use Rattle.outcomes.specs.Pair.{Pair, pairSeed}
-use Rattle.outcomes.specs.Filled.{AllTables, BothTables, Fill, Filled, TooDeep}
+use Rattle.outcomes.specs.Filled.{AllTables, BothTables, Filled, TooDeep}
 use Rattle.outcomes.specs.Order.{Beyond, InOrder, one-pair}
 use Rattle.outcomes.proofs.Unique.{filled-one}
 use Rattle.outcomes.proofs.Order.{in-order-one}
-use Rattle.morris.specs.Refusals.{refusal}
-use Rattle.morris.specs.Conditions.{fillPicks, pairPicks}
-use Rattle.morris.specs.Answers.{Answer, accepted, refused}
+use Rattle.refusals.specs.Refusals.{refusal}
+use Rattle.refusals.specs.Conditions.{fillPicks, pairPicks}
+use Rattle.refusals.specs.Answers.{Answer, accepted, refused}
 use Rattle.morris.specs.Fills.{FillCall, FillPairCall}
-use Rattle.morris.proofs.TablebaseConditions.{AcceptedFill, accepted-fill, accepted-pair, pair-before}
+use Rattle.refusals.proofs.TablebaseConditions.{AcceptedFill, accepted-fill, accepted-pair, pair-before}
 use Rattle.morris.proofs.Promised as promised
 
 -- a forced end beyond the limit: not filled, so 13

@@ -5,8 +5,8 @@ use mathlib.Core.List.{List, [], _∷_, reverse}
 use Prim.Native.Nat.{ℕ}
 use Rattle.board.specs.Board.{setOf}
 use Rattle.frames.specs.Frame.{anyOutside, frameWrong, valueOf, characterOf, byteOf, bytesIn, pointsIn, ringsIn, boardIn, packed, spelled, frameOf}
-use Rattle.morris.specs.Conditions.{valueWrong}
-use Rattle.morris.specs.Answers.{accepted, refused}
+use Rattle.refusals.specs.Conditions.{valueWrong}
+use Rattle.refusals.specs.Answers.{accepted, refused}
 use Rattle.morris.specs.ReadFrameCall.{readFrameCall}
 
 -- a frame stands for a one-ring board, read from point 7 down

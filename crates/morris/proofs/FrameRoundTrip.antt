@@ -12,16 +12,16 @@ use Rattle.board.specs.Board.{setOf, count, boardOf}
 use Rattle.board.proofs.Sides.{position-sides}
 use Rattle.frames.specs.Frame.{frameLength, ringsIn, boardIn, frameOf}
 use Rattle.frames.proofs.RoundTrip.{rings-back, board-back, length-frame, frame-fine, frame-back}
-use Rattle.morris.specs.Refusals.{table, pickedRows, refusal}
-use Rattle.morris.specs.Conditions.{ringsWrong, valueWrong, countsWrong, boardPicks, readPicks, shortPicks}
-use Rattle.morris.specs.Answers.{accepted, number}
+use Rattle.refusals.specs.Refusals.{table, pickedRows, refusal}
+use Rattle.refusals.specs.Conditions.{ringsWrong, valueWrong, countsWrong, boardPicks, readPicks, shortPicks}
+use Rattle.refusals.specs.Answers.{accepted, number}
 use Rattle.morris.specs.ReadFrameCall.{framePosition, readFrameCall}
 use Rattle.morris.specs.WriteFrameCall.{writeFrameCall, writeFrameTarget}
-use Rattle.morris.proofs.FirstRefusal.{passes, passed}
-use Rattle.morris.proofs.Conditions.{accepted-board, short-decides}
+use Rattle.refusals.proofs.FirstRefusal.{passes, passed}
+use Rattle.refusals.proofs.Conditions.{accepted-board, short-decides}
 use Rattle.morris.proofs.Positions.{position-back}
-use Rattle.morris.proofs.FrameConditions.{board-accepted}
-use Rattle.morris.proofs.Answering.{answer-accepted, target-written, number-none}
+use Rattle.refusals.proofs.FrameConditions.{board-accepted}
+use Rattle.refusals.proofs.Answering.{answer-accepted, target-written, number-none}
 
 module _ (rings : ℕ) (b : List ℕ) (e : refusal (boardPicks rings b) ≡ 0) where
   -- the frame of an accepted board has 6, 10 or 14 characters

@@ -1,10 +1,5 @@
-pub mod FirstRefusal
-pub mod Conditions
 pub mod Positions
 pub mod Play
-pub mod Answering
-pub mod FrameConditions
-pub mod TablebaseConditions
 pub mod BestMoves
 pub mod PlayByBest
 pub mod RoundTrip

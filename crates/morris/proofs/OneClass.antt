@@ -10,13 +10,13 @@ use Rattle.symmetry.specs.Representative.{SameClass, representative}
 use Rattle.symmetry.proofs.Images.{image-length, image-values}
 use Rattle.symmetry.proofs.Compose.{image-count}
 use Rattle.symmetry.proofs.Classes.{representative-image, representative-rank, representative-one, representative-again, same-representative}
-use Rattle.morris.specs.Refusals.{refusal}
-use Rattle.morris.specs.Conditions.{boardPicks, valueWrong}
-use Rattle.morris.specs.Answers.{accepted, answer, number, value}
+use Rattle.refusals.specs.Refusals.{refusal}
+use Rattle.refusals.specs.Conditions.{boardPicks, valueWrong}
+use Rattle.refusals.specs.Answers.{accepted, answer, number, value}
 use Rattle.morris.specs.RankCall.{rankCall}
 use Rattle.morris.specs.RepresentativeCall.{representativeCall}
-use Rattle.morris.proofs.Conditions.{Accepted, accepted-board, values-fine}
-use Rattle.morris.proofs.Answering.{number-none}
+use Rattle.refusals.proofs.Conditions.{Accepted, accepted-board, values-fine}
+use Rattle.refusals.proofs.Answering.{number-none}
 
 module _ (rings : ℕ) (b : List ℕ) (e : number (representativeCall rings b) ≡ 0) where
   none : refusal (boardPicks rings b) ≡ 0

@@ -17,14 +17,14 @@ use Rattle.rules.specs.Ply.{removable, listedMoves, removedOf, afterPly}
 use Rattle.rules.proofs.Bound.{moves-bound}
 use Rattle.rules.proofs.Listed.{removable-takes}
 use Rattle.rules.proofs.Leads.{MoverLeft, ply-leads}
-use Rattle.morris.specs.Refusals.{table, pickedRows, refusal}
-use Rattle.morris.specs.Conditions.{boardPicks, targetPicks, movePicks, shortPicks}
-use Rattle.morris.specs.Answers.{accepted}
+use Rattle.refusals.specs.Refusals.{table, pickedRows, refusal}
+use Rattle.refusals.specs.Conditions.{boardPicks, targetPicks, movePicks, shortPicks}
+use Rattle.refusals.specs.Answers.{accepted}
 use Rattle.morris.specs.MovesCall.{movesCall, movesList}
 use Rattle.morris.specs.MakeMoveCall.{makeMoveCall, makeMoveTarget}
-use Rattle.morris.proofs.FirstRefusal.{passes}
-use Rattle.morris.proofs.Conditions.{Counted, Accepted, accepted-board, rings-fine, length-fine, values-fine, counts-fine, short-decides, target-decides, move-decides}
-use Rattle.morris.proofs.Answering.{answer-accepted, target-written}
+use Rattle.refusals.proofs.FirstRefusal.{passes}
+use Rattle.refusals.proofs.Conditions.{Counted, Accepted, accepted-board, rings-fine, length-fine, values-fine, counts-fine, short-decides, target-decides, move-decides}
+use Rattle.refusals.proofs.Answering.{answer-accepted, target-written}
 
 module _ (rings : ℕ) (b : List ℕ) (e : refusal (boardPicks rings b) ≡ 0) where
   board : Accepted rings b

@@ -9,12 +9,12 @@ use native.Mathlib.Omega.{arith}
 use lib.Dec.{ltb, eqb}
 use borrow.Author.Tests.{eqb-false}
 use Rattle.lists.specs.Lists.{all}
-use Rattle.morris.specs.Refusals.{Pick, Picked, pick, tooDeep, table, pickedRows, first, refusal}
-use Rattle.morris.specs.Conditions.{fillPicks, pairPicks}
-use Rattle.morris.specs.Answers.{Answer, accepted, refused, answer}
+use Rattle.refusals.specs.Refusals.{Pick, Picked, pick, tooDeep, table, pickedRows, first, refusal}
+use Rattle.refusals.specs.Conditions.{fillPicks, pairPicks}
+use Rattle.refusals.specs.Answers.{Answer, accepted, refused, answer}
 use Rattle.morris.specs.Fills.{Left, Promise}
-use Rattle.morris.proofs.FirstRefusal.{first-kept, one-more}
-use Rattle.morris.proofs.Answering.{answer-refused, refused-number, accepted-values}
+use Rattle.refusals.proofs.FirstRefusal.{first-kept, one-more}
+use Rattle.refusals.proofs.Answering.{answer-refused, refused-number, accepted-values}
 
 -- picked conditions, after which comes depth
 pub record DepthLast (picks : List Pick) : Type 0 where

@@ -10,14 +10,14 @@ use Rattle.sizes.specs.Size.{size}
 use Rattle.ranking.specs.Rank.{rank}
 use Rattle.ranking.specs.Unrank.{unrank}
 use Rattle.ranking.proofs.Inverse.{rank-unrank, unrank-rank, rank-low}
-use Rattle.morris.specs.Refusals.{table, pickedRows, refusal}
-use Rattle.morris.specs.Conditions.{boardPicks, rankPicks}
-use Rattle.morris.specs.Answers.{accepted, answer, number, target}
+use Rattle.refusals.specs.Refusals.{table, pickedRows, refusal}
+use Rattle.refusals.specs.Conditions.{boardPicks, rankPicks}
+use Rattle.refusals.specs.Answers.{accepted, answer, number, target}
 use Rattle.morris.specs.RankCall.{rankCall}
 use Rattle.morris.specs.UnrankCall.{unrankCall, unrankTarget}
-use Rattle.morris.proofs.FirstRefusal.{passes}
-use Rattle.morris.proofs.Conditions.{accepted-board, accepted-rank, rings-fine, length-fine, values-fine, counts-fine}
-use Rattle.morris.proofs.Answering.{answer-accepted, target-written, number-none}
+use Rattle.refusals.proofs.FirstRefusal.{passes}
+use Rattle.refusals.proofs.Conditions.{accepted-board, accepted-rank, rings-fine, length-fine, values-fine, counts-fine}
+use Rattle.refusals.proofs.Answering.{answer-accepted, target-written, number-none}
 
 -- from a board to its rank and back, into any target of the right length
 pub rank-then-unrank : (rings : ℕ) (b old : List ℕ) → number (rankCall rings b) ≡ 0 → length old ≡ 8 * rings

@@ -12,7 +12,7 @@ use Rattle.rules.specs.Ply.{holding, inMill, targets, slide, unshielded, remova
 use Rattle.game.specs.Game.{wonBy, lostBy, won, lost, ended, depthIs, voidEntry}
 use Rattle.game.proofs.Computed.{entry-is}
 use Rattle.outcomes.specs.Whole.{next, wholeSeed, TrueEntry}
-use Rattle.morris.specs.Conditions.{valueWrong}
+use Rattle.refusals.specs.Conditions.{valueWrong}
 use Rattle.morris.specs.RankCall.{rankCall}
 use Rattle.morris.specs.Cases.{entryIs, holds, starred}
 

@@ -4,9 +4,9 @@ use Prim.Native.Nat.{ℕ}
 use Rattle.rules.specs.Ply.{listedMoves, afterPly}
 use Rattle.outcomes.specs.Places.{successorEntry}
 use Rattle.bestmove.specs.Best.{bestMove}
-use Rattle.morris.specs.Refusals.{refusal}
-use Rattle.morris.specs.Conditions.{bestMovePicks}
-use Rattle.morris.specs.Answers.{Answer, accepted, refused, answer}
+use Rattle.refusals.specs.Refusals.{refusal}
+use Rattle.refusals.specs.Conditions.{bestMovePicks}
+use Rattle.refusals.specs.Answers.{Answer, accepted, refused, answer}
 use Rattle.morris.specs.declared.Chosen.{Chosen}
 use Rattle.morris.specs.declared.Chosen.the-variants.{Move, Refused}
 

@@ -7,9 +7,9 @@ use Rattle.sizes.specs.Size.{size}
 use Rattle.game.specs.Game.{depthIs}
 use Rattle.outcomes.specs.Whole.{next, wholeSeed}
 use Rattle.layout.specs.Layout.{tablebaseLength}
-use Rattle.morris.specs.Refusals.{refusal}
-use Rattle.morris.specs.Conditions.{rankPicks}
-use Rattle.morris.specs.Answers.{number, value}
+use Rattle.refusals.specs.Refusals.{refusal}
+use Rattle.refusals.specs.Conditions.{rankPicks}
+use Rattle.refusals.specs.Answers.{number, value}
 use Rattle.morris.specs.RankCall.{rankCall}
 
 pub data Case : Type 0 where

@@ -7,9 +7,9 @@ use lib.ListN.{length}
 use Rattle.outcomes.specs.Whole.{wholeSeed}
 use Rattle.outcomes.specs.Pair.{pairSeed}
 use Rattle.outcomes.specs.Filled.{AllTables, BothTables, Fill}
-use Rattle.morris.specs.Refusals.{Pick, pick, tooDeep, refusal}
-use Rattle.morris.specs.Conditions.{fillPicks, pairPicks}
-use Rattle.morris.specs.Answers.{Answer, accepted, refused, answer}
+use Rattle.refusals.specs.Refusals.{Pick, pick, tooDeep, refusal}
+use Rattle.refusals.specs.Conditions.{fillPicks, pairPicks}
+use Rattle.refusals.specs.Answers.{Answer, accepted, refused, answer}
 use Rattle.morris.specs.declared.Solved.{Solved}
 use Rattle.morris.specs.declared.Solved.the-variants.{Filled, Refused}
 

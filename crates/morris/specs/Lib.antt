@@ -1,6 +1,3 @@
-pub mod Refusals
-pub mod Conditions
-pub mod Answers
 pub mod RankCall
 pub mod UnrankCall
 pub mod MovesCall

@@ -2,9 +2,9 @@
 use mathlib.Core.List.{List, [], _∷_}
 use Prim.Native.Nat.{ℕ}
 use Rattle.outcomes.specs.Places.{entryAt}
-use Rattle.morris.specs.Refusals.{refusal}
-use Rattle.morris.specs.Conditions.{lookupPicks}
-use Rattle.morris.specs.Answers.{Answer, accepted, refused, answer}
+use Rattle.refusals.specs.Refusals.{refusal}
+use Rattle.refusals.specs.Conditions.{lookupPicks}
+use Rattle.refusals.specs.Answers.{Answer, accepted, refused, answer}
 use Rattle.morris.specs.declared.Looked.{Looked}
 use Rattle.morris.specs.declared.Looked.the-variants.{Entry, Refused}
 

@@ -3,9 +3,9 @@ use mathlib.Core.List.{List, []}
 use Prim.Native.Nat.{ℕ}
 use lib.ListN.{length}
 use Rattle.rules.specs.Ply.{afterPly}
-use Rattle.morris.specs.Refusals.{refusal}
-use Rattle.morris.specs.Conditions.{movePicks}
-use Rattle.morris.specs.Answers.{Answer, accepted, refused, answer, target}
+use Rattle.refusals.specs.Refusals.{refusal}
+use Rattle.refusals.specs.Conditions.{movePicks}
+use Rattle.refusals.specs.Answers.{Answer, accepted, refused, answer, target}
 use Rattle.morris.specs.declared.Made.{Made}
 use Rattle.morris.specs.declared.Made.the-variants.{Written, Refused}
 

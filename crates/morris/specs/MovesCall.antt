@@ -4,9 +4,9 @@ use Prim.Native.Nat.{ℕ}
 use lib.ListN.{length}
 use lib.Seq.{sets}
 use Rattle.rules.specs.Ply.{listedMoves}
-use Rattle.morris.specs.Refusals.{refusal}
-use Rattle.morris.specs.Conditions.{shortPicks}
-use Rattle.morris.specs.Answers.{Answer, accepted, refused, answer, target}
+use Rattle.refusals.specs.Refusals.{refusal}
+use Rattle.refusals.specs.Conditions.{shortPicks}
+use Rattle.refusals.specs.Answers.{Answer, accepted, refused, answer, target}
 use Rattle.morris.specs.declared.Listed.{Listed}
 use Rattle.morris.specs.declared.Listed.the-variants.{Count, Refused}
 

@@ -3,9 +3,9 @@ use mathlib.Core.List.{List, [], _∷_}
 use Prim.Native.Nat.{ℕ}
 use Rattle.ranking.specs.Rank.{rank}
 use Rattle.symmetry.specs.Representative.{representative}
-use Rattle.morris.specs.Refusals.{refusal}
-use Rattle.morris.specs.Conditions.{boardPicks}
-use Rattle.morris.specs.Answers.{Answer, accepted, refused, answer}
+use Rattle.refusals.specs.Refusals.{refusal}
+use Rattle.refusals.specs.Conditions.{boardPicks}
+use Rattle.refusals.specs.Answers.{Answer, accepted, refused, answer}
 use Rattle.morris.specs.declared.Represented.{Represented}
 use Rattle.morris.specs.declared.Represented.the-variants.{Rank, Refused}
 

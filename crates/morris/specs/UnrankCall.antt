@@ -3,9 +3,9 @@ use mathlib.Core.List.{List, []}
 use Prim.Native.Nat.{ℕ, _*_}
 use lib.ListN.{length}
 use Rattle.ranking.specs.Unrank.{unrank}
-use Rattle.morris.specs.Refusals.{refusal}
-use Rattle.morris.specs.Conditions.{rankPicks}
-use Rattle.morris.specs.Answers.{Answer, accepted, refused, answer, target}
+use Rattle.refusals.specs.Refusals.{refusal}
+use Rattle.refusals.specs.Conditions.{rankPicks}
+use Rattle.refusals.specs.Answers.{Answer, accepted, refused, answer, target}
 use Rattle.morris.specs.declared.Unranked.{Unranked}
 use Rattle.morris.specs.declared.Unranked.the-variants.{Written, Refused}
 

@@ -4,9 +4,9 @@ use Prim.Native.Nat.{ℕ}
 use lib.ListN.{length}
 use lib.Seq.{sets}
 use Rattle.frames.specs.Frame.{frameLength, frameOf}
-use Rattle.morris.specs.Refusals.{refusal}
-use Rattle.morris.specs.Conditions.{shortPicks}
-use Rattle.morris.specs.Answers.{Answer, accepted, refused, answer, target}
+use Rattle.refusals.specs.Refusals.{refusal}
+use Rattle.refusals.specs.Conditions.{shortPicks}
+use Rattle.refusals.specs.Answers.{Answer, accepted, refused, answer, target}
 use Rattle.morris.specs.declared.Framed.{Framed}
 use Rattle.morris.specs.declared.Framed.the-variants.{Length, Refused}
 

@@ -3,7 +3,6 @@
 // Every call answers on every input: its result, or the number of the first refusal of document 01's table that it meets, and then each lent
 // buffer is as it was. `docs/PROMISES.md` says which sentence of the papers each contract states.
 mod reader;
-mod refusals;
 mod successors;
 
 ghost use mathlib.Core.Path.{_≡_};

@@ -2,8 +2,7 @@
 use mathlib.Core.Path.{_≡_}
 use mathlib.Core.Bool.{Bool, true, false, _&&_}
 use mathlib.Core.List.{List}
-use mathlib.Core.Logic.{_⊎_}
-use Prim.Native.Nat.{ℕ, zero, suc, _+_, _*_, _≤_, _<_, min}
+use Prim.Native.Nat.{ℕ, zero, suc, _+_, _*_, _≤_, _<_}
 use lib.Dec.{eqb}
 use lib.ListN.{getD, set}
 use Rattle.sizes.specs.Size.{size}
@@ -12,8 +11,6 @@ use Rattle.game.specs.Game.{drawEntry}
 use Rattle.game.specs.Judgement.{hit, decided}
 use Rattle.outcomes.specs.Whole.{next}
 use Rattle.probing.specs.Probes.{probe, Reads}
-use Rattle.parts.specs.Parts.{partOf, filledPart, leastFrom}
-use Rattle.sweeping.specs.declared.tables.Part.{Part}
 use Rattle.sweeping.specs.declared.tables.Table.{Table}
 
 -- table t, its lower table and the table that starts at `same` lie within a tablebase of a length

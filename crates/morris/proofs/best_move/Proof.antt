@@ -15,14 +15,15 @@ use Rattle.board.specs.Board.{count, boardOf}
 use Rattle.rules.specs.Ply.{listedMoves}
 use Rattle.outcomes.specs.Places.{successorVoid}
 use Rattle.plies.specs.Positions.{Placed}
-use Rattle.morris.specs.Refusals.{refusal}
-use Rattle.morris.specs.Conditions.{moverBlocked, tablebasePicks, bestMovePicks}
-use Rattle.morris.specs.Answers.{accepted}
+use Rattle.refusals.specs.Refusals.{refusal}
+use Rattle.refusals.specs.Conditions.{moverBlocked, tablebasePicks, bestMovePicks}
+use Rattle.refusals.specs.Answers.{accepted}
 use Rattle.morris.specs.BestMoveCall.{bestMoveCall}
-use Rattle.morris.proofs.TablebaseConditions.{AcceptedEntry, accepted-entry, best-move-refused, best-move-decides}
-use Rattle.morris.proofs.Positions.{few-points, placed, position-back}
+use Rattle.refusals.proofs.TablebaseConditions.{AcceptedEntry, accepted-entry, best-move-refused, best-move-decides}
+use Rattle.refusals.proofs.Conditions.{few-points}
+use Rattle.morris.proofs.Positions.{placed, position-back}
 use Rattle.morris.proofs.BestMoves.{Starting, reads-of, void-of, move-of, entry-of}
-use Rattle.morris.proofs.Answering.{answer-refused, answer-accepted}
+use Rattle.refusals.proofs.Answering.{answer-refused, answer-accepted}
 use Rattle.morris.proofs.best_move.Statement.{statement}
 use Rattle.morris.proofs.best_move.Tie as tie
 

@@ -4,9 +4,9 @@ use mathlib.Core.Bool.{Bool}
 use native.Mathlib.Omega.{arith}
 use lib.ListN.{length}
 use Rattle.solver.specs.Solve.{WholeFill}
-use Rattle.morris.specs.Refusals.{refusal}
-use Rattle.morris.specs.Conditions.{fillPicks}
-use Rattle.morris.proofs.TablebaseConditions.{AcceptedFill, accepted-fill}
+use Rattle.refusals.specs.Refusals.{refusal}
+use Rattle.refusals.specs.Conditions.{fillPicks}
+use Rattle.refusals.proofs.TablebaseConditions.{AcceptedFill, accepted-fill}
 use Rattle.morris.proofs.Promised.{fill-last, promise-refused, promise-deep, promise-filled}
 use borrow.Author.Needs.{needs}
 use Rattle.morris.proofs.fill.Statement.{statement}

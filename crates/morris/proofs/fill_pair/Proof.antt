@@ -9,9 +9,9 @@ use Rattle.outcomes.specs.Places.{lowerVoid}
 use Rattle.outcomes.specs.Pair.{Pair}
 use Rattle.outcomes.proofs.Voids.{void-free}
 use Rattle.solver.specs.Solve.{PairFill}
-use Rattle.morris.specs.Refusals.{refusal}
-use Rattle.morris.specs.Conditions.{tablesPicks, pairPicks}
-use Rattle.morris.proofs.TablebaseConditions.{AcceptedPair, accepted-pair, pair-refused, pair-decides}
+use Rattle.refusals.specs.Refusals.{refusal}
+use Rattle.refusals.specs.Conditions.{tablesPicks, pairPicks}
+use Rattle.refusals.proofs.TablebaseConditions.{AcceptedPair, accepted-pair, pair-refused, pair-decides}
 use Rattle.morris.proofs.Promised.{pair-last, promise-refused, promise-deep, promise-filled}
 use borrow.Author.Needs.{needs}
 use Rattle.morris.proofs.fill_pair.Statement.{statement}

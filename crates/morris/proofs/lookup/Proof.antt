@@ -13,13 +13,15 @@ use Rattle.ranking.specs.Rank.{rank}
 use Rattle.layout.specs.Layout.{start}
 use Rattle.outcomes.specs.Places.{place, entryAt, isVoid}
 use Rattle.outcomes.proofs.Boards.{place-of, place-within, place-sum, entry-read}
-use Rattle.morris.specs.Refusals.{refusal}
-use Rattle.morris.specs.Conditions.{tablebasePicks, lookupPicks}
-use Rattle.morris.specs.Answers.{accepted}
+use Rattle.refusals.specs.Refusals.{refusal}
+use Rattle.refusals.specs.Conditions.{tablebasePicks, lookupPicks}
+use Rattle.refusals.specs.Answers.{accepted}
 use Rattle.morris.specs.LookupCall.{lookupCall}
-use Rattle.morris.proofs.TablebaseConditions.{AcceptedEntry, accepted-entry, lookup-refused, lookup-decides}
-use Rattle.morris.proofs.Positions.{few-points, mover-stones, opponent-stones, on-board, rank-back}
-use Rattle.morris.proofs.Answering.{answer-refused, answer-accepted}
+use Rattle.refusals.proofs.TablebaseConditions.{AcceptedEntry, accepted-entry, lookup-refused, lookup-decides}
+use Rattle.board.proofs.Sides.{mover-stones, opponent-stones, on-board}
+use Rattle.refusals.proofs.Conditions.{few-points}
+use Rattle.morris.proofs.Positions.{rank-back}
+use Rattle.refusals.proofs.Answering.{answer-refused, answer-accepted}
 use Rattle.morris.proofs.lookup.Statement.{statement}
 use Rattle.morris.proofs.lookup.Tie as tie
 

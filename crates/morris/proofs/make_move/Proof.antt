@@ -11,12 +11,13 @@ use Rattle.board.specs.declared.position.Position.{Position}
 use Rattle.board.specs.Board.{positionOf, boardOf}
 use Rattle.rules.specs.Ply.{listedMoves, afterPly}
 use Rattle.plies.specs.Positions.{Placed}
-use Rattle.morris.specs.Refusals.{refusal}
-use Rattle.morris.specs.Conditions.{targetPicks}
+use Rattle.refusals.specs.Refusals.{refusal}
+use Rattle.refusals.specs.Conditions.{targetPicks}
 use Rattle.morris.specs.MakeMoveCall.{makeMoveCall, makeMoveTarget}
-use Rattle.morris.proofs.Conditions.{Accepted, accepted-target, move-refused, move-decides}
-use Rattle.morris.proofs.Positions.{few-points, placed, position-back, moves-back, after-back}
-use Rattle.morris.proofs.Answering.{turned-back, written}
+use Rattle.refusals.proofs.Conditions.{Accepted, accepted-target, move-refused, move-decides}
+use Rattle.refusals.proofs.Conditions.{few-points}
+use Rattle.morris.proofs.Positions.{placed, position-back, moves-back, after-back}
+use Rattle.refusals.proofs.Answering.{turned-back, written}
 use Rattle.morris.proofs.make_move.Statement.{statement}
 use Rattle.morris.proofs.make_move.Tie as tie
 

@@ -12,12 +12,13 @@ use Rattle.board.specs.declared.position.Position.{Position}
 use Rattle.board.specs.Board.{boardOf}
 use Rattle.rules.specs.Ply.{listedMoves}
 use Rattle.plies.specs.Positions.{Placed}
-use Rattle.morris.specs.Refusals.{refusal}
-use Rattle.morris.specs.Conditions.{boardPicks}
+use Rattle.refusals.specs.Refusals.{refusal}
+use Rattle.refusals.specs.Conditions.{boardPicks}
 use Rattle.morris.specs.MovesCall.{movesCall, movesList}
-use Rattle.morris.proofs.Conditions.{Accepted, accepted-board, short-refused, short-decides}
-use Rattle.morris.proofs.Positions.{few-points, placed, moves-back}
-use Rattle.morris.proofs.Answering.{turned-back, written}
+use Rattle.refusals.proofs.Conditions.{Accepted, accepted-board, short-refused, short-decides}
+use Rattle.refusals.proofs.Conditions.{few-points}
+use Rattle.morris.proofs.Positions.{placed, moves-back}
+use Rattle.refusals.proofs.Answering.{turned-back, written}
 use Rattle.morris.proofs.moves.Statement.{statement}
 use Rattle.morris.proofs.moves.Tie as tie
 

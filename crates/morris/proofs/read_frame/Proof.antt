@@ -6,13 +6,13 @@ use Prim.Native.Nat.{ℕ, _*_}
 use native.Mathlib.Omega.{arith}
 use borrow.Author.Needs.{needs}
 use Rattle.sets.specs.Sets.{members}
-use Rattle.morris.specs.Refusals.{refusal}
-use Rattle.morris.specs.Conditions.{countsWrong, framePicks, readPicks}
-use Rattle.morris.specs.Answers.{accepted, refused, number}
+use Rattle.refusals.specs.Refusals.{refusal}
+use Rattle.refusals.specs.Conditions.{countsWrong, framePicks, readPicks}
+use Rattle.refusals.specs.Answers.{accepted, refused, number}
 use Rattle.morris.specs.ReadFrameCall.{frameRead, framePosition, readFrameCall, takenApart}
 use Rattle.morris.specs.declared.Frame.{Frame}
-use Rattle.morris.proofs.FrameConditions.{accepted-frame, frame-refused, stones-are, stones-decide}
-use Rattle.morris.proofs.Answering.{answer-refused, answer-accepted, refused-number, accepted-values}
+use Rattle.refusals.proofs.FrameConditions.{accepted-frame, frame-refused, stones-are, stones-decide}
+use Rattle.refusals.proofs.Answering.{answer-refused, answer-accepted, refused-number, accepted-values}
 use Rattle.morris.proofs.read_frame.Statement.{statement}
 use Rattle.morris.proofs.read_frame.Tie as tie
 

@@ -4,14 +4,13 @@ use mathlib.Core.List.{List, [], _∷_}
 use Prim.Native.Nat.{ℕ}
 use native.Mathlib.Omega.{arith}
 use borrow.Author.Needs.{needs}
-use Rattle.ranking.specs.Rank.{rank as Rank·rank}
 use Rattle.symmetry.specs.Representative.{representative}
-use Rattle.morris.specs.Refusals.{refusal}
-use Rattle.morris.specs.Conditions.{boardPicks}
-use Rattle.morris.specs.Answers.{accepted}
+use Rattle.refusals.specs.Refusals.{refusal}
+use Rattle.refusals.specs.Conditions.{boardPicks}
+use Rattle.refusals.specs.Answers.{accepted}
 use Rattle.morris.specs.RepresentativeCall.{representativeCall}
-use Rattle.morris.proofs.Conditions.{Accepted, accepted-board}
-use Rattle.morris.proofs.Answering.{answer-refused, answer-accepted}
+use Rattle.refusals.proofs.Conditions.{Accepted, accepted-board}
+use Rattle.refusals.proofs.Answering.{answer-refused, answer-accepted}
 use Rattle.morris.proofs.representative.Statement.{statement}
 use Rattle.morris.proofs.representative.Tie as tie
 

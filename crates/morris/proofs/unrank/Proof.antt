@@ -8,13 +8,12 @@ use borrow.Author.Needs.{needs}
 use Rattle.board.specs.Board.{boardOf, positionOf}
 use Rattle.board.proofs.Sides.{board-position}
 use Rattle.sizes.specs.Size.{size}
-use Rattle.ranking.specs.Unrank.{unrank as Unrank·unrank}
 use Rattle.ranking.proofs.Inverse.{rank-unrank}
-use Rattle.morris.specs.Refusals.{refusal}
-use Rattle.morris.specs.Conditions.{countsPicks}
+use Rattle.refusals.specs.Refusals.{refusal}
+use Rattle.refusals.specs.Conditions.{countsPicks}
 use Rattle.morris.specs.UnrankCall.{unrankCall, unrankTarget}
-use Rattle.morris.proofs.Conditions.{AcceptedCounts, accepted-counts, counts-refused, rank-refused, rank-passed}
-use Rattle.morris.proofs.Answering.{turned-back, written}
+use Rattle.refusals.proofs.Conditions.{AcceptedCounts, accepted-counts, counts-refused, rank-refused, rank-passed}
+use Rattle.refusals.proofs.Answering.{turned-back, written}
 use Rattle.morris.proofs.unrank.Statement.{statement}
 use Rattle.morris.proofs.unrank.Tie as tie
 

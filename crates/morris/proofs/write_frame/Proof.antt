@@ -8,11 +8,11 @@ use lib.ListN.{length}
 use borrow.Author.Tests.{lt-ltb, le-ltb}
 use borrow.Author.Needs.{needs}
 use Rattle.frames.specs.Frame.{frameLength}
-use Rattle.morris.specs.Refusals.{refusal}
-use Rattle.morris.specs.Conditions.{boardPicks}
+use Rattle.refusals.specs.Refusals.{refusal}
+use Rattle.refusals.specs.Conditions.{boardPicks}
 use Rattle.morris.specs.WriteFrameCall.{writeFrameCall, writeFrameTarget}
-use Rattle.morris.proofs.Conditions.{accepted-board, short-refused, short-decides}
-use Rattle.morris.proofs.Answering.{turned-back, written}
+use Rattle.refusals.proofs.Conditions.{accepted-board, short-refused, short-decides}
+use Rattle.refusals.proofs.Answering.{turned-back, written}
 use Rattle.morris.proofs.write_frame.Statement.{statement}
 use Rattle.morris.proofs.write_frame.Tie as tie
 

@@ -6,12 +6,12 @@ use native.Mathlib.Omega.{arith}
 use borrow.Author.Needs.{needs}
 use Rattle.board.specs.Board.{setOf}
 use Rattle.frames.specs.Frame.{ringsIn, boardIn}
-use Rattle.morris.specs.Refusals.{refusal}
-use Rattle.morris.specs.Conditions.{framePicks}
-use Rattle.morris.specs.Answers.{accepted}
+use Rattle.refusals.specs.Refusals.{refusal}
+use Rattle.refusals.specs.Conditions.{framePicks}
+use Rattle.refusals.specs.Answers.{accepted}
 use Rattle.morris.specs.ReadFrameCall.{framePosition, takenApart}
-use Rattle.morris.proofs.FrameConditions.{AcceptedFrame, accepted-frame}
-use Rattle.morris.proofs.Answering.{answer-refused, answer-accepted}
+use Rattle.refusals.proofs.FrameConditions.{AcceptedFrame, accepted-frame}
+use Rattle.refusals.proofs.Answering.{answer-refused, answer-accepted}
 use Rattle.morris.proofs.reader.take_apart.Statement.{statement}
 use Rattle.morris.proofs.reader.take_apart.Tie as tie
 

@@ -1,0 +1,5 @@
+pub mod FirstRefusal
+pub mod Conditions
+pub mod FrameConditions
+pub mod TablebaseConditions
+pub mod Answering

@@ -1,0 +1,173 @@
+-- The refusals of the tablebase calls: what an accepted K, tablebase and limit have, with a board or with the counts of a pair, and the last places
+-- of each call, which decide where the places before them are passed. Assumes nothing.
+use mathlib.Core.Path.{_≡_, refl, ap, _∙_}
+use mathlib.Core.Bool.{Bool, false, cond, _||_}
+use mathlib.Core.List.{List, [], _∷_}
+use Prim.Native.Nat.{ℕ, _*_, _≤_}
+use lib.Dec.{eqb, ltb}
+use lib.ListN.{length}
+use borrow.Author.Tests.{ltb-false, eqb-true, not-false}
+use Rattle.lists.proofs.Tests.{or-left, or-right}
+use Rattle.board.specs.Board.{count}
+use Rattle.layout.specs.Layout.{tablebaseLength}
+use Rattle.layout.proofs.OneToOne.{IsTable}
+use Rattle.outcomes.specs.Places.{entryAt, isVoid, successorVoid, lowerVoid}
+use Rattle.outcomes.proofs.Boards.{InTables}
+use Rattle.refusals.specs.Refusals.{Picked, table, pickedRows, refusal}
+use Rattle.refusals.specs.Conditions.{countAbove, largestWrong, tablebaseWrong, largestLimit, limitWrong, moverBlocked}
+use Rattle.refusals.specs.Conditions.{boardPicks, largestPicks, tablebasePicks, lookupPicks, bestMovePicks, limitPicks, fillPicks, tablesPicks, pairPicks}
+use Rattle.refusals.proofs.FirstRefusal.{passed, first-kept, first-after, both-passed, first-cons, one-more}
+use Rattle.refusals.proofs.Conditions.{Counted, Accepted, rings-right, counts-right, accepted-board}
+
+-- what a right K is, and that no count is above it
+pub record Largest (k : ℕ) (above : Bool) : Type 0 where
+  pub low : 3 ≤ k
+  pub high : k ≤ 9
+  pub none-above : above ≡ false
+
+pub largest-right : (k : ℕ) (above : Bool) → largestWrong k above ≡ false → Largest k above
+largest-right k above e =
+    let a = ltb k 3 in
+    let b = ltb 9 k in
+    let d = or-left (a || b) above e in
+    record { low = ltb-false k 3 (or-left a b d); high = ltb-false 9 k (or-right a b d); none-above = or-right (a || b) above e }
+
+-- counts that are not above K are those of a table
+table-right : (points k m o : ℕ) → Counted points m o → countAbove k m o ≡ false → IsTable points k m o
+table-right points k m o w e = record {
+  mover-low = w .mover-low;
+  mover-high = ltb-false k m (or-left (ltb k m) (ltb k o) e);
+  opponent-low = w .opponent-low;
+  opponent-high = ltb-false k o (or-right (ltb k m) (ltb k o) e);
+  stones-fit = w .stones-fit;
+}
+
+-- an accepted tablebase of n entries
+pub record AcceptedTablebase (rings k n : ℕ) : Type 0 where
+  pub rings-low : 1 ≤ rings
+  pub rings-high : rings ≤ 3
+  pub largest-low : 3 ≤ k
+  pub largest-high : k ≤ 9
+  pub exact : n ≡ tablebaseLength (8 * rings) k
+
+tablebase-right : (rings k : ℕ) (above : Bool) (n : ℕ) → (1 ≤ rings) × (rings ≤ 3) → Largest k above → tablebaseWrong rings k n ≡ false
+    → AcceptedTablebase rings k n
+tablebase-right rings k above n r l e =
+    let m = tablebaseLength (8 * rings) k in
+    record {
+      rings-low = r .0;
+      rings-high = r .1;
+      largest-low = l .low;
+      largest-high = l .high;
+      exact = eqb-true n m (not-false (eqb n m) e);
+    }
+
+-- and an accepted board, which has its place there
+pub record AcceptedEntry (rings : ℕ) (b : List ℕ) (k n : ℕ) : Type 0 where
+  pub board : Accepted rings b
+  pub tablebase : AcceptedTablebase rings k n
+  pub in-tables : InTables rings k b
+
+pub both-right : (rings : ℕ) (b : List ℕ) (k n : ℕ) → refusal (tablebasePicks rings b k n) ≡ 0
+    → (refusal (boardPicks rings b) ≡ 0) × (refusal (largestPicks rings k (countAbove k (count 1 b) (count 2 b)) n) ≡ 0)
+both-right rings b k n e =
+    both-passed (pickedRows table (boardPicks rings b)) (pickedRows table (largestPicks rings k (countAbove k (count 1 b) (count 2 b)) n)) refl e
+
+pub accepted-entry : (rings : ℕ) (b : List ℕ) (k n : ℕ) → refusal (tablebasePicks rings b k n) ≡ 0 → AcceptedEntry rings b k n
+accepted-entry rings b k n e =
+    let above = countAbove k (count 1 b) (count 2 b) in
+    let p = both-right rings b k n e in
+    let q = passed (pickedRows table (largestPicks rings k above n)) refl (p .1) in
+    let w = accepted-board rings b (p .0) in
+    let l = largest-right k above (q .0) in
+    let t = table-right (8 * rings) k (count 1 b) (count 2 b) (w .counted) (l .none-above) in
+    record {
+      board = w;
+      tablebase = tablebase-right rings k above n (w .rings-low, w .rings-high) l (q .1 .0);
+      in-tables = record { points = w .points; values = w .values; is-table = t };
+    }
+
+-- an accepted tablebase to fill
+pub record AcceptedFill (rings k limit n : ℕ) : Type 0 where
+  pub tablebase : AcceptedTablebase rings k n
+  pub limit-high : limit ≤ largestLimit
+
+pub accepted-fill : (rings k limit n : ℕ) → refusal (fillPicks rings k limit n) ≡ 0 → AcceptedFill rings k limit n
+accepted-fill rings k limit n e =
+    let p = passed (pickedRows table (fillPicks rings k limit n)) refl e in
+    record {
+      tablebase = tablebase-right rings k false n (rings-right rings (p .0)) (largest-right k false (p .1 .0)) (p .1 .1 .0);
+      limit-high = ltb-false largestLimit limit (p .1 .1 .1 .0);
+    }
+
+-- an accepted pair to fill
+pub record AcceptedPair (rings m o k limit n : ℕ) : Type 0 where
+  pub tablebase : AcceptedTablebase rings k n
+  pub is-table : IsTable (8 * rings) k m o
+  pub limit-high : limit ≤ largestLimit
+
+pub accepted-pair : (rings m o k limit n : ℕ) → refusal (tablesPicks rings m o k limit n) ≡ 0 → AcceptedPair rings m o k limit n
+accepted-pair rings m o k limit n e =
+    let p = passed (pickedRows table (tablesPicks rings m o k limit n)) refl e in
+    let l = largest-right k (countAbove k m o) (p .1 .1 .0) in
+    record {
+      tablebase = tablebase-right rings k (countAbove k m o) n (rings-right rings (p .0)) l (p .1 .1 .1 .0);
+      is-table = table-right (8 * rings) k m o (counts-right (8 * rings) m o (p .1 .0)) (l .none-above);
+      limit-high = ltb-false largestLimit limit (p .1 .1 .1 .1 .0);
+    }
+
+-- a limit comes after K and the tablebase
+module _ (rings k : ℕ) (above : Bool) (limit n : ℕ) where
+  pub limit-refused : (r : ℕ) → (r ≡ 0 → ⊥) → r ≡ refusal (largestPicks rings k above n) → r ≡ refusal (limitPicks rings k above limit n)
+  limit-refused r z e = first-kept (pickedRows table (largestPicks rings k above n)) (record { holds = limitWrong limit; number = 10 } ∷ []) r z e
+
+  pub limit-decides : 0 ≡ refusal (largestPicks rings k above n) → refusal (limitPicks rings k above limit n) ≡ cond (limitWrong limit) 10 0
+  limit-decides e = one-more (pickedRows table (largestPicks rings k above n)) (limitWrong limit) 10 refl e
+
+-- the entries read come after board and tablebase: the one looked up
+module _ (rings : ℕ) (b : List ℕ) (k : ℕ) (tablebase : List ℕ) where
+  pub lookup-refused : (n : ℕ) → (n ≡ 0 → ⊥) → n ≡ refusal (tablebasePicks rings b k (length tablebase)) → n ≡ refusal (lookupPicks rings b k tablebase)
+  lookup-refused n z e =
+      first-kept (pickedRows table (tablebasePicks rings b k (length tablebase)))
+      (record { holds = isVoid (entryAt rings k tablebase b); number = 12 } ∷ []) n z e
+
+  pub lookup-decides : 0 ≡ refusal (tablebasePicks rings b k (length tablebase))
+      → refusal (lookupPicks rings b k tablebase) ≡ cond (isVoid (entryAt rings k tablebase b)) 12 0
+  lookup-decides e = one-more (pickedRows table (tablebasePicks rings b k (length tablebase))) (isVoid (entryAt rings k tablebase b)) 12 refl e
+
+  -- no refusal at all: none before the entry is read
+  pub lookup-before : refusal (lookupPicks rings b k tablebase) ≡ 0 → refusal (tablebasePicks rings b k (length tablebase)) ≡ 0
+  lookup-before e =
+      both-passed (pickedRows table (tablebasePicks rings b k (length tablebase)))
+      (record { holds = isVoid (entryAt rings k tablebase b); number = 12 } ∷ []) refl e .0
+
+  -- those of the successors, where the mover is not blocked
+  pub best-move-refused : (n : ℕ) → (n ≡ 0 → ⊥) → n ≡ refusal (tablebasePicks rings b k (length tablebase)) → n ≡ refusal (bestMovePicks rings b k tablebase)
+  best-move-refused n z e =
+      first-kept (pickedRows table (tablebasePicks rings b k (length tablebase)))
+      (record { holds = moverBlocked rings b; number = 9 } ∷ record { holds = successorVoid rings k tablebase b; number = 12 } ∷ []) n z e
+
+  pub best-move-decides : 0 ≡ refusal (tablebasePicks rings b k (length tablebase))
+      → refusal (bestMovePicks rings b k tablebase) ≡ cond (moverBlocked rings b) 9 (cond (successorVoid rings k tablebase b) 12 0)
+  best-move-decides e =
+      let last : List Picked = record { holds = successorVoid rings k tablebase b; number = 12 } ∷ [] in
+      first-after (pickedRows table (tablebasePicks rings b k (length tablebase))) (record { holds = moverBlocked rings b; number = 9 } ∷ last) refl e
+      ∙ first-cons (moverBlocked rings b) 9 last ∙ ap (cond (moverBlocked rings b) 9) (first-cons (successorVoid rings k tablebase b) 12 [])
+
+-- those of a pair's lower tables
+module _ (rings m o k limit : ℕ) (tablebase : List ℕ) where
+  pub pair-refused : (n : ℕ) → (n ≡ 0 → ⊥) → n ≡ refusal (tablesPicks rings m o k limit (length tablebase))
+      → n ≡ refusal (pairPicks rings m o k limit tablebase)
+  pair-refused n z e =
+      first-kept (pickedRows table (tablesPicks rings m o k limit (length tablebase)))
+      (record { holds = lowerVoid rings k tablebase m o; number = 12 } ∷ []) n z e
+
+  pub pair-decides : 0 ≡ refusal (tablesPicks rings m o k limit (length tablebase))
+      → refusal (pairPicks rings m o k limit tablebase) ≡ cond (lowerVoid rings k tablebase m o) 12 0
+  pair-decides e = one-more (pickedRows table (tablesPicks rings m o k limit (length tablebase))) (lowerVoid rings k tablebase m o) 12 refl e
+
+  -- no refusal at all: none before the lower tables are read
+  pub pair-before : refusal (pairPicks rings m o k limit tablebase) ≡ 0 → refusal (tablesPicks rings m o k limit (length tablebase)) ≡ 0
+  pair-before e =
+      both-passed (pickedRows table (tablesPicks rings m o k limit (length tablebase))) (record { holds = lowerVoid rings k tablebase m o; number = 12 } ∷ [])
+      refl e .0
