@@ -21,16 +21,16 @@ use Rattle.outcomes.proofs.Boards.{InTables}
 use Rattle.outcomes.proofs.WholeGame.{whole-cases, whole-closed, board-reached, board-true, reached-true, successors-told}
 use Rattle.bestmove.proofs.Choice.{best-listed}
 use Rattle.bestmove.proofs.QuickestWin.{best-plays}
-use Rattle.morris.specs.Refusals.{refusal}
-use Rattle.morris.specs.Conditions.{moverBlocked, tablebasePicks, lookupPicks, bestMovePicks}
-use Rattle.morris.specs.Answers.{accepted}
+use Rattle.refusals.specs.Refusals.{refusal}
+use Rattle.refusals.specs.Conditions.{moverBlocked, tablebasePicks, lookupPicks, bestMovePicks}
+use Rattle.refusals.specs.Answers.{accepted}
 use Rattle.morris.specs.MakeMoveCall.{makeMoveCall, makeMoveTarget}
 use Rattle.morris.specs.LookupCall.{lookupCall}
 use Rattle.morris.specs.BestMoveCall.{entryAfter, bestListed, bestSuccessor, bestMoveCall}
 use Rattle.morris.specs.Fills.{FillCall}
-use Rattle.morris.proofs.TablebaseConditions.{AcceptedEntry, both-right, accepted-entry, lookup-before, best-move-decides}
+use Rattle.refusals.proofs.TablebaseConditions.{AcceptedEntry, both-right, accepted-entry, lookup-before, best-move-decides}
 use Rattle.morris.proofs.Play.{listed-made}
-use Rattle.morris.proofs.Answering.{answer-accepted, accepted-values}
+use Rattle.refusals.proofs.Answering.{answer-accepted, accepted-values}
 use Rattle.morris.proofs.ExactEntries.{fill-accepted}
 
 module _ (rings k : ℕ) (tablebase : List ℕ) (entries : TrueEntries rings k (AllTables rings k) tablebase) where
