@@ -12,8 +12,7 @@ use Rattle.board.proofs.Sides.{more-digit}
 use Rattle.symmetry.specs.Symmetries.{symmetries, source, image, whole}
 use Rattle.symmetry.specs.Representative.{inUse}
 use Rattle.symmetry.proofs.Sums.{sum, sum-same, sum-front, Permutes, sum-permuted}
-use Rattle.symmetry.proofs.Group.{compose, inverse, inverse-low, inverse-inverse}
-use Rattle.symmetry.proofs.Group.{source-low, source-compose, source-undo, source-redo}
+use Rattle.symmetry.proofs.Group.{compose, inverse, inverse-low, inverse-inverse, source-low, source-compose, source-undo, source-redo}
 use Rattle.symmetry.proofs.Images.{image-length, image-at, image-is, whole-at, whole-length}
 
 -- a count is a sum over the points

@@ -14,8 +14,7 @@ use Rattle.plies.specs.Positions.{Placed}
 use Rattle.refusals.specs.Refusals.{refusal}
 use Rattle.refusals.specs.Conditions.{targetPicks}
 use Rattle.morris.specs.MakeMoveCall.{makeMoveCall, makeMoveTarget}
-use Rattle.refusals.proofs.Conditions.{Accepted, accepted-target, move-refused, move-decides}
-use Rattle.refusals.proofs.Conditions.{few-points}
+use Rattle.refusals.proofs.Conditions.{Accepted, accepted-target, move-refused, move-decides, few-points}
 use Rattle.morris.proofs.Positions.{placed, position-back, moves-back, after-back}
 use Rattle.refusals.proofs.Answering.{turned-back, written}
 use Rattle.morris.proofs.make_move.Statement.{statement}

@@ -15,8 +15,7 @@ use Rattle.plies.specs.Positions.{Placed}
 use Rattle.refusals.specs.Refusals.{refusal}
 use Rattle.refusals.specs.Conditions.{boardPicks}
 use Rattle.morris.specs.MovesCall.{movesCall, movesList}
-use Rattle.refusals.proofs.Conditions.{Accepted, accepted-board, short-refused, short-decides}
-use Rattle.refusals.proofs.Conditions.{few-points}
+use Rattle.refusals.proofs.Conditions.{Accepted, accepted-board, short-refused, short-decides, few-points}
 use Rattle.morris.proofs.Positions.{placed, moves-back}
 use Rattle.refusals.proofs.Answering.{turned-back, written}
 use Rattle.morris.proofs.moves.Statement.{statement}

@@ -3,13 +3,13 @@ use mathlib.Core.Path.{sym, ap, _∙_}
 use mathlib.Core.List.{List, [], _∷_}
 use Prim.Native.Nat.{ℕ}
 use borrow.Author.Needs.{needs}
+use Rattle.ranking.specs.Rank.{rank as Rank·rank}
 use Rattle.refusals.specs.Refusals.{refusal}
 use Rattle.refusals.specs.Conditions.{boardPicks}
 use Rattle.refusals.specs.Answers.{accepted}
 use Rattle.morris.specs.RankCall.{rankCall}
-use Rattle.refusals.proofs.Conditions.{Accepted, accepted-board}
+use Rattle.refusals.proofs.Conditions.{Accepted, accepted-board, few-points}
 use Rattle.board.proofs.Sides.{on-board}
-use Rattle.refusals.proofs.Conditions.{few-points}
 use Rattle.morris.proofs.Positions.{rank-back}
 use Rattle.refusals.proofs.Answering.{answer-refused, answer-accepted}
 use Rattle.morris.proofs.rank.Statement.{statement}

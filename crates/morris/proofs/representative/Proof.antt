@@ -5,6 +5,7 @@ use Prim.Native.Nat.{ℕ}
 use native.Mathlib.Omega.{arith}
 use borrow.Author.Needs.{needs}
 use Rattle.symmetry.specs.Representative.{representative}
+use Rattle.ranking.specs.Rank.{rank as Rank·rank}
 use Rattle.refusals.specs.Refusals.{refusal}
 use Rattle.refusals.specs.Conditions.{boardPicks}
 use Rattle.refusals.specs.Answers.{accepted}

@@ -9,6 +9,7 @@ use Rattle.board.specs.Board.{boardOf, positionOf}
 use Rattle.board.proofs.Sides.{board-position}
 use Rattle.sizes.specs.Size.{size}
 use Rattle.ranking.proofs.Inverse.{rank-unrank}
+use Rattle.ranking.specs.Unrank.{unrank as Unrank·unrank}
 use Rattle.refusals.specs.Refusals.{refusal}
 use Rattle.refusals.specs.Conditions.{countsPicks}
 use Rattle.morris.specs.UnrankCall.{unrankCall, unrankTarget}

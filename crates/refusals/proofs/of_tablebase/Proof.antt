@@ -8,8 +8,7 @@ use Rattle.board.specs.Board.{count}
 use Rattle.refusals.specs.Refusals.{table, pickedRows, refusal}
 use Rattle.refusals.specs.Conditions.{countAbove, boardPicks, largestPicks}
 use Rattle.refusals.proofs.FirstRefusal.{first-kept, first-after}
-use Rattle.refusals.proofs.Conditions.{Accepted, accepted-board}
-use Rattle.refusals.proofs.Conditions.{few-points}
+use Rattle.refusals.proofs.Conditions.{Accepted, accepted-board, few-points}
 use Rattle.refusals.proofs.of_tablebase.Statement.{statement}
 use Rattle.refusals.proofs.of_tablebase.Tie as tie
 
