@@ -7,7 +7,7 @@ use Prim.Native.Nat.{ℕ, suc, _+_, _-_, _*_, _≤_}
 use native.Mathlib.Omega.{arith}
 use lib.Dec.{ltb}
 use lib.ListN.{getD}
-use borrow.Author.Tests.{ltb-true, ltb-false, eq-eqb, ne-eqb}
+use borrow.Author.Tests.{ltb-true, ltb-false, ne-eqb}
 use Rattle.board.specs.Board.{count}
 use Rattle.sizes.specs.Size.{size}
 use Rattle.ranking.specs.Rank.{rank}
@@ -25,10 +25,6 @@ use Rattle.probing.proofs.Reading.{probe-same, probe-two, probe-fewer}
 use Rattle.sweeping.specs.Tables.{lowerStart}
 
 module _ (points k m o : ℕ) where
-  pub lower-none : o ≡ 3 → lowerStart points k m o ≡ 0
-  unfolding lowerStart
-  lower-none e = rw (eq-eqb o 3 e, lowerStart)
-
   pub lower-starts : 4 ≤ o → lowerStart points k m o ≡ start points k (o - 1) m
   unfolding lowerStart
   lower-starts h = rw (ne-eqb o 3 (λ e. omega arith), lowerStart)
