@@ -89,7 +89,7 @@ module _ (rings k m o : ℕ) (a b : Table) (now : List ℕ) (s : Setting (length
   least-is = refl
 
   -- the least depth is from the level on, and at most void
-  pub least-range : level < voidEntry → (level ≤ pairLeast a b level now) × (pairLeast a b level now ≤ voidEntry)
+  least-range : level < voidEntry → (level ≤ pairLeast a b level now) × (pairLeast a b level now ≤ voidEntry)
   least-range h =
       let p = at ones (least-cases level _) in
       let q = at twos (least-cases level _) in
@@ -102,7 +102,7 @@ module _ (rings k m o : ℕ) (a b : Table) (now : List ℕ) (s : Setting (length
       at e (inr q) = (q .0, omega (arith, q .1))
 
   -- and no entry from the level on lies below it
-  pub least-entry : (c : List ℕ) → OnPair rings m o c → 3 ≤ count 1 c → level ≤ entryAt rings k now c
+  least-entry : (c : List ℕ) → OnPair rings m o c → 3 ≤ count 1 c → level ≤ entryAt rings k now c
       → (pairLeast a b level now ≤ entryAt rings k now c) ⊎ (voidEntry ≤ entryAt rings k now c)
   least-entry c i three h = go (i .counts)
     where

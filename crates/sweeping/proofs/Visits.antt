@@ -81,7 +81,7 @@ module _ (rings k m o : ℕ) (pair : Pair rings k m o) (x y : ℕ) (t : Table) (
     swept-is n =
         ap₂ (λ (c : Bool) (i : ℕ). elim c as (λ d. List ℕ) [ true ↦ set now i n | false ↦ now ]) (ap₂ (λ (a b : Bool). a && b) open-is (hit-is n)) place-is
 
-    pub place-kept : (n : ℕ) → Kept rings k (BothTables m o) now (sweptPlace rings t same n now r)
+    place-kept : (n : ℕ) → Kept rings k (BothTables m o) now (sweptPlace rings t same n now r)
     unfolding sweptPlace
     place-kept n = go (isOpen t now r && hit (next rings) (judged rings t same now) n (ranked rings t same r))
       where
