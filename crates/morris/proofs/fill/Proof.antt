@@ -12,12 +12,16 @@ use borrow.Author.Needs.{needs}
 use Rattle.morris.proofs.fill.Statement.{statement}
 use Rattle.morris.proofs.fill.Tie as tie
 
+-- the entry of the call, seen from past its first refusals
+abbrev entered : tie.Else1 → tie.Start
+entered c = c .before .before .before .before .before
+
 -- past the refusals
 none : (c : tie.Else1)
-    → 0 ≡ refusal (fillPicks (c .before .before .before .before .before .args .rings) (c .before .before .before .before .before .args .k) (c .before .before .before .before .before .args .limit) (length (c .before .before .before .before .before .args .tablebase .now)))
+    → 0 ≡ refusal (fillPicks (entered c .args .rings) (entered c .args .k) (entered c .args .limit) (length (entered c .args .tablebase .now)))
 none c = sym (c .if1 .left) ∙ c .before .of-fill .ensures
 
-known : (c : tie.Else1) → AcceptedFill (c .before .before .before .before .before .args .rings) (c .before .before .before .before .before .args .k) (c .before .before .before .before .before .args .limit) (length (c .before .before .before .before .before .args .tablebase .now))
+known : (c : tie.Else1) → AcceptedFill (entered c .args .rings) (entered c .args .k) (entered c .args .limit) (length (entered c .args .tablebase .now))
 known c = accepted-fill _ _ _ _ (sym (none c))
 
 binomial-table-requires : tie.Need-binomial-table-requires
