@@ -20,7 +20,8 @@ pub lower-part-void : (rings k m o : ℕ) (t : Table) → Located (8 * rings) k 
 unfolding lowerStart lowerEnd
 lower-part-void rings k m o t l h tablebase = go (eqb o 3) refl
   where
-    go : (c : Bool) → eqb o 3 ≡ c → any (λ v. isVoid v) (partOf (t .lower .start) (t .lower .end) tablebase) ≡ (leb 3 (o - 1) && tableVoid rings k tablebase (o - 1) m)
+    go : (c : Bool) → eqb o 3 ≡ c → any (λ v. isVoid v) (partOf (t .lower .start) (t .lower .end) tablebase) ≡ (leb 3 (o - 1) && tableVoid rings k tablebase
+        (o - 1) m)
     go true f =
         let e = eqb-true o 3 f in
         let u : t .lower .start ≡ 0 = l .lower-start-is ∙ rw (f, lowerStart) in

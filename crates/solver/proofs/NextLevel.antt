@@ -138,8 +138,16 @@ module _ (rings k m o : ℕ) (a b : Table) (now : List ℕ) (s : Setting (length
 -- all four parts lie within the tablebase
 pub in-room : {n rings k m o : ℕ} {a b : Table} → Setting n rings k m o a b → InRoom n a b
 in-room {n} {rings} {k} {m} {o} {a} {b} s = record {
-  first = (omega (arith, part-end rings k m o a (s .first)), part-room rings k m o a (s .first) (in-range {rings = rings} (s .pair) (inl (refl, refl))) n (s .room));
-  second = (omega (arith, part-end rings k o m b (s .second)), part-room rings k o m b (s .second) (in-range {rings = rings} (s .pair) (inr (refl, refl))) n (s .room));
+  first = (
+    omega (arith, part-end rings k m o a (s .first)),
+    part-room rings k m o a (s .first) (in-range {rings = rings} (s .pair) (inl (refl, refl))) n
+        (s .room),
+  );
+  second = (
+    omega (arith, part-end rings k o m b (s .second)),
+    part-room rings k o m b (s .second) (in-range {rings = rings} (s .pair) (inr (refl, refl))) n
+        (s .room),
+  );
   first-lower = lower-room rings k m o a (s .first) (s .pair) n (s .room);
   second-lower = lower-room rings k o m b (s .second) (turned-pair (s .pair)) n (s .room);
 }

@@ -134,7 +134,8 @@ module _ (rings k m o : ℕ) (a b : Table) (now : List ℕ) (s : Setting (length
 
       -- a board of the first table, which the second may or may not cover
       covered : InTable rings m o c
-          → ((b .own .start ≤ place rings k c) × (place rings k c < b .own .end)) ⊎ (getD (pairFilled a b v now) (place rings k c) 0 ≡ getD once (place rings k c) 0)
+          → ((b .own .start ≤ place rings k c) × (place rings k c < b .own .end)) ⊎
+          (getD (pairFilled a b v now) (place rings k c) 0 ≡ getD once (place rings k c) 0)
           → entryAt rings k (pairFilled a b v now) c ≡ v
       covered w (inl q) = entry-place rings k (pairFilled a b v now) c
           ∙ filled-in (b .own .start) (b .own .end) v once (omega (arith, part-end rings k o m b (s .second)))

@@ -76,7 +76,8 @@ module _ (rings : ℕ) (t : Table) (same r : ℕ) (now : List ℕ) where
   unfolding openDecided
   closed-undecided e = rw (e, openDecided)
 
-  pub open-decided : isOpen t now r ≡ true → (d : Bool) → d ≡ decided (next rings) (judged rings t same now) (ranked rings t same r) → d ≡ openDecided rings t same now r
+  pub open-decided : isOpen t now r ≡ true → (d : Bool) → d ≡ decided (next rings) (judged rings t same now) (ranked rings t same r) → d ≡ openDecided rings
+      t same now r
   unfolding openDecided
   open-decided e d h = rw (e, openDecided) h
 

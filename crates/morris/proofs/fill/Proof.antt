@@ -34,7 +34,8 @@ returns : tie.Need-returns
 returns c =
     let a = c .before .before .before .before .before .args in
     promise-refused (fillPicks (a .rings) (a .k) (a .limit) (length (a .tablebase .now))) (fill-last (a .rings) (a .k) (a .limit) (length (a .tablebase .now)))
-    (λ (deep : Bool). WholeFill (a .rings) (a .k) (a .limit) (a .tablebase .now) (a .tablebase .now) deep) (a .tablebase .now) (a .tablebase .now) (c .before .of-fill .result) (c .if1 .taken) (c .before .of-fill .ensures)
+    (λ (deep : Bool). WholeFill (a .rings) (a .k) (a .limit) (a .tablebase .now) (a .tablebase .now) deep) (a .tablebase .now) (a .tablebase .now)
+    (c .before .of-fill .result) (c .if1 .taken) (c .before .of-fill .ensures)
 
 neighbour-masks-requires : tie.Need-neighbour-masks-requires
 neighbour-masks-requires c κs = known c .tablebase .rings-high
@@ -65,8 +66,10 @@ returns-2 : tie.Need-returns-2
 returns-2 c =
     let a = c .before .before .before .before .before .before .before .before .before .before .before .before .before .before .before .args in
     promise-deep (fillPicks (a .rings) (a .k) (a .limit) (length (a .tablebase .now))) (fill-last (a .rings) (a .k) (a .limit) (length (a .tablebase .now)))
-    (λ (deep : Bool). WholeFill (a .rings) (a .k) (a .limit) (a .tablebase .now) (c .before .before .before .solve-all .last .0) deep) (a .tablebase .now) (c .before .before .before .solve-all .last .0) (none (c .before .before .before .before .before .before .before .before .before .before))
-    (subst (λ (deep : Bool). WholeFill (a .rings) (a .k) (a .limit) (a .tablebase .now) (c .before .before .before .solve-all .last .0) deep) (c .if2 .taken) (c .before .before .before .solve-all .ensures))
+    (λ (deep : Bool). WholeFill (a .rings) (a .k) (a .limit) (a .tablebase .now) (c .before .before .before .solve-all .last .0) deep) (a .tablebase .now)
+    (c .before .before .before .solve-all .last .0) (none (c .before .before .before .before .before .before .before .before .before .before))
+    (subst (λ (deep : Bool). WholeFill (a .rings) (a .k) (a .limit) (a .tablebase .now) (c .before .before .before .solve-all .last .0) deep) (c .if2 .taken)
+    (c .before .before .before .solve-all .ensures))
 
 same-length-2 : tie.Need-same-length-2
 same-length-2 c = search needs
@@ -75,8 +78,10 @@ returns-3 : tie.Need-returns-3
 returns-3 c =
     let a = c .before .before .before .before .before .before .before .before .before .before .before .before .before .before .before .args in
     promise-filled (fillPicks (a .rings) (a .k) (a .limit) (length (a .tablebase .now))) (fill-last (a .rings) (a .k) (a .limit) (length (a .tablebase .now)))
-    (λ (deep : Bool). WholeFill (a .rings) (a .k) (a .limit) (a .tablebase .now) (c .before .before .before .solve-all .last .0) deep) (a .tablebase .now) (c .before .before .before .solve-all .last .0) (none (c .before .before .before .before .before .before .before .before .before .before))
-    (subst (λ (deep : Bool). WholeFill (a .rings) (a .k) (a .limit) (a .tablebase .now) (c .before .before .before .solve-all .last .0) deep) (c .if2 .left) (c .before .before .before .solve-all .ensures))
+    (λ (deep : Bool). WholeFill (a .rings) (a .k) (a .limit) (a .tablebase .now) (c .before .before .before .solve-all .last .0) deep) (a .tablebase .now)
+    (c .before .before .before .solve-all .last .0) (none (c .before .before .before .before .before .before .before .before .before .before))
+    (subst (λ (deep : Bool). WholeFill (a .rings) (a .k) (a .limit) (a .tablebase .now) (c .before .before .before .solve-all .last .0) deep) (c .if2 .left)
+    (c .before .before .before .solve-all .ensures))
 
 pub fill-spec : {M : Type 1} → statement M
 fill-spec =

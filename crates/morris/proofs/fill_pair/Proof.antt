@@ -42,7 +42,8 @@ is-pair c =
     }
 
 -- whether a lower entry is void decides
-decided : (c : tie.Else1) (t : Bool) → lowerVoid (entered c .args .rings) (entered c .args .k) (entered c .args .tablebase .now) (entered c .args .mover) (entered c .args .opponent) ≡ t
+decided : (c : tie.Else1) (t : Bool) → lowerVoid (entered c .args .rings) (entered c .args .k) (entered c .args .tablebase .now) (entered c .args .mover)
+    (entered c .args .opponent) ≡ t
     → refusal (pairPicks (entered c .args .rings) (entered c .args .mover) (entered c .args .opponent) (entered c .args .k) (entered c .args .limit)
     (entered c .args .tablebase .now)) ≡ cond t 12 0
 decided c t e =
@@ -59,8 +60,10 @@ returns : tie.Need-returns
 returns c =
     let a = c .before .before .before .before .before .args in
     let n = c .before .of-pair .result in
-    promise-refused (pairPicks (a .rings) (a .mover) (a .opponent) (a .k) (a .limit) (a .tablebase .now)) (pair-last (a .rings) (a .mover) (a .opponent) (a .k) (a .limit) (a .tablebase .now))
-    (λ (deep : Bool). PairFill (a .rings) (a .k) (a .mover) (a .opponent) (a .limit) (a .tablebase .now) (a .tablebase .now) deep) (a .tablebase .now) (a .tablebase .now)
+    promise-refused (pairPicks (a .rings) (a .mover) (a .opponent) (a .k) (a .limit) (a .tablebase .now))
+    (pair-last (a .rings) (a .mover) (a .opponent) (a .k) (a .limit) (a .tablebase .now))
+    (λ (deep : Bool). PairFill (a .rings) (a .k) (a .mover) (a .opponent) (a .limit) (a .tablebase .now) (a .tablebase .now) deep) (a .tablebase .now)
+    (a .tablebase .now)
     n (c .if1 .taken) (pair-refused (a .rings) (a .mover) (a .opponent) (a .k) (a .limit) (a .tablebase .now) n (c .if1 .taken) (c .before .of-pair .ensures))
 
 lower-void-requires : tie.Need-lower-void-requires
@@ -76,8 +79,10 @@ returns-2 : tie.Need-returns-2
 returns-2 c =
     let x = c .before .before .before .before in
     let a = entered x .args in
-    promise-refused (pairPicks (a .rings) (a .mover) (a .opponent) (a .k) (a .limit) (a .tablebase .now)) (pair-last (a .rings) (a .mover) (a .opponent) (a .k) (a .limit) (a .tablebase .now))
-    (λ (deep : Bool). PairFill (a .rings) (a .k) (a .mover) (a .opponent) (a .limit) (a .tablebase .now) (a .tablebase .now) deep) (a .tablebase .now) (a .tablebase .now)
+    promise-refused (pairPicks (a .rings) (a .mover) (a .opponent) (a .k) (a .limit) (a .tablebase .now))
+    (pair-last (a .rings) (a .mover) (a .opponent) (a .k) (a .limit) (a .tablebase .now))
+    (λ (deep : Bool). PairFill (a .rings) (a .k) (a .mover) (a .opponent) (a .limit) (a .tablebase .now) (a .tablebase .now) deep) (a .tablebase .now)
+    (a .tablebase .now)
     12 (λ z. absurd (omega arith)) (sym (decided x true (sym (c .before .lower-void .ensures) ∙ c .if2 .taken)))
 
 neighbour-masks-requires : tie.Need-neighbour-masks-requires
@@ -102,8 +107,10 @@ solve-pair-requires c κs =
           (
             (is-pair x, w .tablebase .largest-high, w .tablebase .exact),
             (
-              void-free (a .rings) (a .k) (a .tablebase .now) (w .tablebase .exact) (λ i. omega (arith, x .before .before .before .before .slice-known .given i)) (a .mover) (a .opponent) (is-pair x)
-                  (sym (c .before .before .before .before .before .before .before .lower-void .ensures) ∙ c .before .before .before .before .before .before .if2 .left),
+              void-free (a .rings) (a .k) (a .tablebase .now) (w .tablebase .exact)
+                  (λ i. omega (arith, x .before .before .before .before .slice-known .given i)) (a .mover) (a .opponent) (is-pair x)
+                  (sym (c .before .before .before .before .before .before .before .lower-void .ensures)
+                  ∙ c .before .before .before .before .before .before .if2 .left),
               omega (arith, w .limit-high),
             ),
           ),
@@ -119,10 +126,13 @@ returns-3 c =
     let x = c .before .before .before .before .before .before .before .before .before .before .before .before .before .before in
     let a = entered x .args in
     let after : List ℕ = c .before .before .before .solve-pair .last .0 in
-    promise-deep (pairPicks (a .rings) (a .mover) (a .opponent) (a .k) (a .limit) (a .tablebase .now)) (pair-last (a .rings) (a .mover) (a .opponent) (a .k) (a .limit) (a .tablebase .now))
+    promise-deep (pairPicks (a .rings) (a .mover) (a .opponent) (a .k) (a .limit) (a .tablebase .now))
+    (pair-last (a .rings) (a .mover) (a .opponent) (a .k) (a .limit) (a .tablebase .now))
     (λ (deep : Bool). PairFill (a .rings) (a .k) (a .mover) (a .opponent) (a .limit) (a .tablebase .now) (after) deep) (a .tablebase .now) after
-    (sym (decided x false (sym (c .before .before .before .before .before .before .before .before .before .before .before .lower-void .ensures) ∙ c .before .before .before .before .before .before .before .before .before .before .if2 .left)))
-    (subst (λ (deep : Bool). PairFill (a .rings) (a .k) (a .mover) (a .opponent) (a .limit) (a .tablebase .now) (after) deep) (c .if3 .taken) (c .before .before .before .solve-pair .ensures))
+    (sym (decided x false (sym (c .before .before .before .before .before .before .before .before .before .before .before .lower-void .ensures)
+    ∙ c .before .before .before .before .before .before .before .before .before .before .if2 .left)))
+    (subst (λ (deep : Bool). PairFill (a .rings) (a .k) (a .mover) (a .opponent) (a .limit) (a .tablebase .now) (after) deep) (c .if3 .taken)
+    (c .before .before .before .solve-pair .ensures))
 
 same-length-3 : tie.Need-same-length-3
 same-length-3 c = search needs
@@ -132,10 +142,13 @@ returns-4 c =
     let x = c .before .before .before .before .before .before .before .before .before .before .before .before .before .before in
     let a = entered x .args in
     let after : List ℕ = c .before .before .before .solve-pair .last .0 in
-    promise-filled (pairPicks (a .rings) (a .mover) (a .opponent) (a .k) (a .limit) (a .tablebase .now)) (pair-last (a .rings) (a .mover) (a .opponent) (a .k) (a .limit) (a .tablebase .now))
+    promise-filled (pairPicks (a .rings) (a .mover) (a .opponent) (a .k) (a .limit) (a .tablebase .now))
+    (pair-last (a .rings) (a .mover) (a .opponent) (a .k) (a .limit) (a .tablebase .now))
     (λ (deep : Bool). PairFill (a .rings) (a .k) (a .mover) (a .opponent) (a .limit) (a .tablebase .now) (after) deep) (a .tablebase .now) after
-    (sym (decided x false (sym (c .before .before .before .before .before .before .before .before .before .before .before .lower-void .ensures) ∙ c .before .before .before .before .before .before .before .before .before .before .if2 .left)))
-    (subst (λ (deep : Bool). PairFill (a .rings) (a .k) (a .mover) (a .opponent) (a .limit) (a .tablebase .now) (after) deep) (c .if3 .left) (c .before .before .before .solve-pair .ensures))
+    (sym (decided x false (sym (c .before .before .before .before .before .before .before .before .before .before .before .lower-void .ensures)
+    ∙ c .before .before .before .before .before .before .before .before .before .before .if2 .left)))
+    (subst (λ (deep : Bool). PairFill (a .rings) (a .k) (a .mover) (a .opponent) (a .limit) (a .tablebase .now) (after) deep) (c .if3 .left)
+    (c .before .before .before .solve-pair .ensures))
 
 pub fill-pair-spec : {M : Type 1} → statement M
 fill-pair-spec =

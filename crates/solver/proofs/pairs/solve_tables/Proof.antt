@@ -36,7 +36,8 @@ looped c = c .before .before .before .before .before .before .before
 state : (x : tie.At-loop Inv-loop μ-loop) → State (entered x .args .rings) (entered x .args .k) (entered x .args .first .mover)
     (entered x .args .first .opponent) (entered x .args .first) (entered x .args .second) (entered x .args .tablebase .now)
     (entered x .pre .1 .1 .1 .0) (entered x .pre .1 .1 .1 .1 .0) (entered x .args .limit) (x .loop .level) (x .loop .tablebase)
-state x = x .loop .inv (entered x .args .tablebase .now) (entered x .pre .1 .1 .1 .0) (entered x .pre .1 .1 .1 .1 .0) (x .before .before .before .fill-pair .ensures)
+state x = x .loop .inv (entered x .args .tablebase .now) (entered x .pre .1 .1 .1 .0) (entered x .pre .1 .1 .1 .1 .0)
+    (x .before .before .before .fill-pair .ensures)
 
 here : (x : tie.At-loop Inv-loop μ-loop) → Setting (length (x .loop .tablebase)) (entered x .args .rings) (entered x .args .k)
     (entered x .args .first .mover) (entered x .args .first .opponent) (entered x .args .first) (entered x .args .second)
@@ -44,19 +45,24 @@ here x = setting-now (length (x .loop .tablebase)) (state x .kept .same-length) 
 
 -- one level more
 stepped : (c : tie.After-level-after Inv-loop μ-loop) (before : List ℕ)
-    (s : Setting (length before) (entered (looped c) .args .rings) (entered (looped c) .args .k) (entered (looped c) .args .first .mover) (entered (looped c) .args .first .opponent)
+    (s : Setting (length before) (entered (looped c) .args .rings) (entered (looped c) .args .k) (entered (looped c) .args .first .mover)
+    (entered (looped c) .args .first .opponent)
     (entered (looped c) .args .first) (entered (looped c) .args .second))
-    (valid : LowerValid (entered (looped c) .args .rings) (entered (looped c) .args .k) (entered (looped c) .args .first .mover) (entered (looped c) .args .first .opponent) before)
+    (valid : LowerValid (entered (looped c) .args .rings) (entered (looped c) .args .k) (entered (looped c) .args .first .mover)
+    (entered (looped c) .args .first .opponent) before)
     → looped c .before .before .before .fill-pair .last .0 ≡ pairFilled (entered (looped c) .args .first) (entered (looped c) .args .second) drawEntry before
     → (looped c .loop .level < c .level-after .result)
     × State (entered (looped c) .args .rings) (entered (looped c) .args .k) (entered (looped c) .args .first .mover) (entered (looped c) .args .first .opponent)
-    (entered (looped c) .args .first) (entered (looped c) .args .second) before s valid (entered (looped c) .args .limit) (c .level-after .result) (c .before .before .before .before .sweep-pair .last .0)
+    (entered (looped c) .args .first) (entered (looped c) .args .second) before s valid (entered (looped c) .args .limit) (c .level-after .result)
+    (c .before .before .before .before .sweep-pair .last .0)
 stepped c before s valid e =
     let x = looped c in
     let t = entered x in
     state-next (t .args .rings) (t .args .k) (t .args .first .mover) (t .args .first .opponent) (t .args .first) (t .args .second) before s valid
-    (t .args .limit) (x .loop .level) (x .loop .tablebase) (t .pre .1 .1 .1 .1 .1) (c .before .before .before .before .before .before .loop-test .taken) (x .loop .inv before s valid e)
-    (c .before .before .before .before .sweep-pair .last .0) (c .before .before .before .before .sweep-pair .ensures) (c .level-after .result) (c .level-after .ensures)
+    (t .args .limit) (x .loop .level) (x .loop .tablebase) (t .pre .1 .1 .1 .1 .1) (c .before .before .before .before .before .before .loop-test .taken)
+    (x .loop .inv before s valid e)
+    (c .before .before .before .before .sweep-pair .last .0) (c .before .before .before .before .sweep-pair .ensures) (c .level-after .result)
+    (c .level-after .ensures)
 
 fill-pair-requires : tie.Need-fill-pair-requires Inv-loop μ-loop
 fill-pair-requires c κs = in-room (c .before .before .pre .1 .1 .1 .0)
@@ -115,8 +121,10 @@ returns-2 c =
     let s = entered x in
     one-decided (s .args .rings) (s .args .k) (s .args .first .mover) (s .args .first .opponent) (s .args .first) (s .args .second) (s .args .tablebase .now)
     (s .pre .1 .1 .1 .0) (s .pre .1 .1 .1 .1 .0) (s .args .limit) (x .loop .level) (x .loop .tablebase) (state x)
-    (omega (arith, c .before .before .before .before .before .before .before .before .loop-test .left)) (omega (arith, c .before .before .before .before .before .before .before .if1 .left))
-    (subst (PairFound (s .args .rings) (s .args .first) (s .args .second) (x .loop .tablebase)) (c .before .before .before .before .if2 .taken) (c .before .before .before .before .before .pair-decided .ensures))
+    (omega (arith, c .before .before .before .before .before .before .before .before .loop-test .left))
+    (omega (arith, c .before .before .before .before .before .before .before .if1 .left))
+    (subst (PairFound (s .args .rings) (s .args .first) (s .args .second) (x .loop .tablebase)) (c .before .before .before .before .if2 .taken)
+    (c .before .before .before .before .before .pair-decided .ensures))
     (c .before .before .fill-pair2 .last .0) (c .before .before .fill-pair2 .ensures)
 
 same-length-2 : tie.Need-same-length-2 Inv-loop μ-loop

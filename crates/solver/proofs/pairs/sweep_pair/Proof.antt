@@ -35,7 +35,9 @@ returns c =
     let s = c .before .before .before .before .before .before .before .before .before .before .before .before .before in
     let a = s .args in
     c .before .before .sweep-table2 .ensures
-    ∙ pair-twice (a .rings) (a .first) (a .second) (a .level) (a .tablebase .now) (c .before .before .before .before .if1 .taken) (c .before .before .before .before .before .before .before .before .sweep-table .last .0) (c .before .before .before .before .before .before .before .before .sweep-table .ensures)
+    ∙ pair-twice (a .rings) (a .first) (a .second) (a .level) (a .tablebase .now) (c .before .before .before .before .if1 .taken)
+    (c .before .before .before .before .before .before .before .before .sweep-table .last .0)
+    (c .before .before .before .before .before .before .before .before .sweep-table .ensures)
 
 same-length-2 : tie.Need-same-length-2
 same-length-2 c = search needs

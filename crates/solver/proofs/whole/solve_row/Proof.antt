@@ -51,7 +51,8 @@ solve-pair-requires c κs =
             (p, s .pre .1 .1 .1 .0 .1, x .loop .inv .2 ∙ s .pre .1 .1 .1 .0 .2),
             (
               lower-valid (s .args .rings) (s .args .k) (s .args .m) (x .loop .o) (x .loop .tablebase)
-                  (done-lower (s .args .rings) (s .args .k) (s .args .m) (x .loop .o) p (c .before .loop-test .taken) (s .args .limit) (x .loop .tablebase) (x .loop .tablebase)
+                  (done-lower (s .args .rings) (s .args .k) (s .args .m) (x .loop .o) p (c .before .loop-test .taken) (s .args .limit) (x .loop .tablebase)
+                  (x .loop .tablebase)
                   (x .loop .inv .3)),
               s .pre .1 .1 .1 .1 .1,
             ),
@@ -64,20 +65,28 @@ same-length : tie.Need-same-length Inv-loop μ-loop
 same-length c =
     let x = c .before .before .before .before .before .before in
     let s = entered x in
-    (subst (PairFill (s .args .rings) (s .args .k) (s .args .m) (x .loop .o) (s .args .limit) (x .loop .tablebase) (c .before .before .before .solve-pair .last .0)) (c .if1 .taken) (c .before .before .before .solve-pair .ensures)) .kept .same-length ∙ x .loop .inv .2
+    (subst (PairFill (s .args .rings) (s .args .k) (s .args .m) (x .loop .o) (s .args .limit) (x .loop .tablebase)
+    (c .before .before .before .solve-pair .last .0)) (c .if1 .taken) (c .before .before .before .solve-pair .ensures)) .kept .same-length ∙ x .loop .inv .2
 
 returns : tie.Need-returns Inv-loop μ-loop
 returns c =
     let x = c .before .before .before .before .before .before in
     let s = entered x in (
       same-length c,
-      deep-whole (s .args .rings) (s .args .k) (s .args .m) (x .loop .o) (pair-in x (c .before .before .before .before .before .loop-test .taken)) (c .before .before .before .before .before .loop-test .taken) (s .args .limit)
+      deep-whole (s .args .rings) (s .args .k) (s .args .m) (x .loop .o) (pair-in x (c .before .before .before .before .before .loop-test .taken))
+          (c .before .before .before .before .before .loop-test .taken) (s .args .limit)
           (x .loop .tablebase) (c .before .before .before .solve-pair .last .0) (x .loop .inv .3)
-          (subst (PairFill (s .args .rings) (s .args .k) (s .args .m) (x .loop .o) (s .args .limit) (x .loop .tablebase) (c .before .before .before .solve-pair .last .0)) (c .if1 .taken) (c .before .before .before .solve-pair .ensures)),
+          (subst (PairFill (s .args .rings) (s .args .k) (s .args .m) (x .loop .o) (s .args .limit) (x .loop .tablebase)
+          (c .before .before .before .solve-pair .last .0)) (c .if1 .taken) (c .before .before .before .solve-pair .ensures)),
     )
 
 add-o : tie.Need-add-o Inv-loop μ-loop
-add-o c = omega (arith, c .before .before .before .before .before .loop-test .taken, c .before .before .before .before .before .before .before .before .pre .1 .1 .1 .0 .0 .mover-high, c .before .before .before .before .before .before .before .before .pre .1 .1 .1 .0 .1)
+add-o c = omega (
+  arith,
+  c .before .before .before .before .before .loop-test .taken,
+  c .before .before .before .before .before .before .before .before .pre .1 .1 .1 .0 .0 .mover-high,
+  c .before .before .before .before .before .before .before .before .pre .1 .1 .1 .0 .1,
+)
 
 loop-less : tie.Need-loop-less Inv-loop μ-loop
 loop-less c = omega (arith, c .before .before .before .before .before .loop-test .taken)
@@ -86,11 +95,13 @@ loop-again : tie.Need-loop-again Inv-loop μ-loop
 loop-again c =
     let x = c .before .before .before .before .before .before in
     let s = entered x in
-    let f = (subst (PairFill (s .args .rings) (s .args .k) (s .args .m) (x .loop .o) (s .args .limit) (x .loop .tablebase) (c .before .before .before .solve-pair .last .0)) (c .if1 .left) (c .before .before .before .solve-pair .ensures)) in (
+    let f = (subst (PairFill (s .args .rings) (s .args .k) (s .args .m) (x .loop .o) (s .args .limit) (x .loop .tablebase)
+    (c .before .before .before .solve-pair .last .0)) (c .if1 .left) (c .before .before .before .solve-pair .ensures)) in (
       omega (arith, x .loop .inv .0),
       omega (arith, c .before .before .before .before .before .loop-test .taken),
       f .kept .same-length ∙ x .loop .inv .2,
-      done-pair (s .args .rings) (s .args .k) (s .args .m) (x .loop .o) (pair-in x (c .before .before .before .before .before .loop-test .taken)) (c .before .before .before .before .before .loop-test .taken) (s .args .limit)
+      done-pair (s .args .rings) (s .args .k) (s .args .m) (x .loop .o) (pair-in x (c .before .before .before .before .before .loop-test .taken))
+          (c .before .before .before .before .before .loop-test .taken) (s .args .limit)
           (x .loop .tablebase) (c .before .before .before .solve-pair .last .0) (x .loop .inv .3) f,
     )
 

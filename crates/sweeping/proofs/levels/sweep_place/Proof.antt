@@ -46,8 +46,10 @@ returns c =
     let t = c .before .before .before .before .before in
     let u = t .before .before .before .before in
     let s = u .before .before .before .before .before in
-    c .before .before .write-entry .ensures ∙ place-hit (s .args .rings) (s .args .table) (s .args .same) (s .args .r) (s .args .tablebase .now) (s .args .level) (sym (u .before .before .is-open .ensures) ∙ u .before .if1 .taken)
-    (sym (hit-at (s .args .rings) (s .args .table) (s .args .same) (s .args .r) (s .args .tablebase .now) (length (s .args .tablebase .now)) (u .unrank .result) (found u) (s .args .level)) ∙ sym (t .before .hits .ensures) ∙ t .if2 .taken)
+    c .before .before .write-entry .ensures ∙ place-hit (s .args .rings) (s .args .table) (s .args .same) (s .args .r) (s .args .tablebase .now)
+    (s .args .level) (sym (u .before .before .is-open .ensures) ∙ u .before .if1 .taken)
+    (sym (hit-at (s .args .rings) (s .args .table) (s .args .same) (s .args .r) (s .args .tablebase .now) (length (s .args .tablebase .now))
+    (u .unrank .result) (found u) (s .args .level)) ∙ sym (t .before .hits .ensures) ∙ t .if2 .taken)
 
 same-length-2 : tie.Need-same-length-2
 same-length-2 c = search needs
@@ -57,7 +59,8 @@ returns-2 c =
     let u = c .before .before .before .before in
     let s = u .before .before .before .before .before in
     place-missed (s .args .rings) (s .args .table) (s .args .same) (s .args .r) (s .args .tablebase .now) (s .args .level)
-    (sym (hit-at (s .args .rings) (s .args .table) (s .args .same) (s .args .r) (s .args .tablebase .now) (length (s .args .tablebase .now)) (u .unrank .result) (found u) (s .args .level)) ∙ sym (c .before .hits .ensures) ∙ c .if2 .left)
+    (sym (hit-at (s .args .rings) (s .args .table) (s .args .same) (s .args .r) (s .args .tablebase .now) (length (s .args .tablebase .now))
+    (u .unrank .result) (found u) (s .args .level)) ∙ sym (c .before .hits .ensures) ∙ c .if2 .left)
 
 same-length-3 : tie.Need-same-length-3
 same-length-3 c = search needs
@@ -65,7 +68,8 @@ same-length-3 c = search needs
 returns-3 : tie.Need-returns-3
 returns-3 c =
     let s = c .before .before .before .before in
-    place-closed (s .args .rings) (s .args .table) (s .args .same) (s .args .r) (s .args .tablebase .now) (s .args .level) (sym (c .before .is-open .ensures) ∙ c .if1 .left)
+    place-closed (s .args .rings) (s .args .table) (s .args .same) (s .args .r) (s .args .tablebase .now) (s .args .level)
+    (sym (c .before .is-open .ensures) ∙ c .if1 .left)
 
 pub sweep-place-spec : {M : Type 1} → statement M
 sweep-place-spec =
