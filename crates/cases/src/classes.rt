@@ -1,5 +1,6 @@
 // Representatives of classes.
 use super::printing::about;
+use super::printing::add;
 use super::printing::number;
 use super::printing::refused;
 use super::printing::table;
@@ -82,7 +83,7 @@ fn count(rings: u8, mover: u8, opponent: u8, size: u64, board: &mut [u8]) -> u64
     let mut n: u64 = 0;
     let mut r: u64 = 0;
     while r < size {
-        n = std::num::wrapping_add_u64(n, own(rings, mover, opponent, r, board));
+        n = add(n, own(rings, mover, opponent, r, board));
         r += 1;
     }
     n

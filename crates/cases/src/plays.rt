@@ -1,12 +1,14 @@
 // Moves listed and made.
 ghost use Prim.Native.Nat.{_≤_};
 use super::printing::about;
+use super::printing::add;
 use super::printing::number;
 use super::printing::numbers;
 use super::printing::points;
 use super::printing::refused;
 use super::printing::table;
 use super::printing::text;
+use super::printing::wider;
 use morris::Listed;
 use morris::Made;
 use morris::Ranked;
@@ -159,14 +161,6 @@ fn next(rings: u8, board: &[u8], move_number: u16, target: &mut [u8]) -> u64 {
     r
 }
 
-fn add(x: u64, y: u64) -> u64 {
-    std::num::wrapping_add_u64(x, y)
-}
-
-fn value(x: u16) -> u64 {
-    x as u64
-}
-
 fn least(x: usize, y: usize) -> usize
     ensures { λ r. ⌜ r ≤ y ⌝ }
 {
@@ -184,7 +178,7 @@ fn sum(rings: u8, board: &[u8], list: &[u16], n: usize, target: &mut [u8]) -> u6
     while i < end {
         let number = list[i];
         let rank = next(rings, board, number, target);
-        s = add(s, add(value(number), rank));
+        s = add(s, add(wider(number), rank));
         i += 1;
     }
     s

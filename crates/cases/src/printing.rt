@@ -32,8 +32,13 @@ pub fn numbers(list: &[u16]) {
     }
 }
 
-fn wider(x: u16) -> u64 {
+pub fn wider(x: u16) -> u64 {
     x as u64
+}
+
+// The sum of two numbers, modulo 2 ^ 64.
+pub fn add(x: u64, y: u64) -> u64 {
+    std::num::wrapping_add_u64(x, y)
 }
 
 pub fn refused(n: u8) {

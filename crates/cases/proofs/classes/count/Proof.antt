@@ -18,8 +18,8 @@ loop-holds c = search needs
 own-requires : tie.Need-own-requires Inv-loop μ-loop
 own-requires c κs = search needs
 
-wrapping-add-u64-requires : tie.Need-wrapping-add-u64-requires Inv-loop μ-loop
-wrapping-add-u64-requires c κs = search needs
+add-requires : tie.Need-add-requires Inv-loop μ-loop
+add-requires c κs = search needs
 
 add-r : tie.Need-add-r Inv-loop μ-loop
 add-r c = search needs
@@ -44,7 +44,7 @@ count-spec =
     μ-loop
     loop-holds
     own-requires
-    wrapping-add-u64-requires
+    add-requires
     add-r
     loop-less
     loop-again

@@ -27,8 +27,8 @@ shared-slice-read-number c = search needs
 next-requires : tie.Need-next-requires Inv-loop μ-loop
 next-requires c κs = search needs
 
-value-requires : tie.Need-value-requires Inv-loop μ-loop
-value-requires c κs = search needs
+wider-requires : tie.Need-wider-requires Inv-loop μ-loop
+wider-requires c κs = search needs
 
 add-requires : tie.Need-add-requires Inv-loop μ-loop
 add-requires c κs = search needs
@@ -62,7 +62,7 @@ sum-spec =
     mul-number
     shared-slice-read-number
     next-requires
-    value-requires
+    wider-requires
     add-requires
     add-requires-2
     add-i
