@@ -4,7 +4,8 @@ use Prim.Native.Nat.{ℕ, _*_}
 use lib.ListN.{length}
 use Rattle.sizes.specs.Size.{size}
 use Rattle.sweeping.specs.Levels.{Fits}
-use Rattle.solver.proofs.PairSteps.{swept-length, pair-once, pair-twice}
+use Rattle.sweeping.proofs.AtRank.{swept-length}
+use Rattle.solver.proofs.PairSteps.{pair-once, pair-twice}
 use borrow.Author.Needs.{needs}
 use Rattle.solver.proofs.pairs.sweep_pair.Statement.{statement}
 use Rattle.solver.proofs.pairs.sweep_pair.Tie as tie
