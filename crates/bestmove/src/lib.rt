@@ -17,7 +17,7 @@ ghost use Rattle.bestmove.specs.Best.{bestEntry, bestMove, entryBy, wort
 use probing::VOID;
 
 // The entry of a draw, and its worth.
-const DRAW: u32 = 65535;
+const DRAW: u32 = parts::DRAW as u32;
 
 // No position has more moves.
 const MOVES_MAX: usize = 324;

@@ -186,13 +186,6 @@ module _ {Pos : Type 0} (next : Pos → List Pos) (seed : Pos → Seed) (S : Pos
         go (inl e) = found e (before-or-not next seed n q)
         go (inr a) = inr a
 
-    pub exact-sound : (q : Pos) → S q → t q < voidEntry → Depth next seed (t q) q
-    exact-sound q s l = go (exact-known q s)
-      where
-        go : Open seed t q ⊎ Entry next seed q (t q) → Depth next seed (t q) q
-        go (inl o) = absurd (omega (arith, o .1))
-        go (inr a) = entry-depth next seed q a l
-
     -- an open position that its successors' entries decide ends, and not within fewer than n plies
     pub beyond : (p : Pos) → S p → seed p ≡ live → t p ≡ drawEntry → decided next t p ≡ true
         → ((k : ℕ) × (ended next seed k p ≡ true)) × NotBefore next seed n p

@@ -1,4 +1,4 @@
--- A mover who always takes a quickest win wins in time, whatever the opponent does. Assumes nothing.
+-- A mover who wins by best moves has a ply, and one who always takes a quickest win wins in time, whatever the opponent does. Assumes nothing.
 use mathlib.Core.Path.{_≡_, sym, _∙_}
 use mathlib.Core.Bool.{true}
 use mathlib.Core.List.{List, List·Memᴰ}
@@ -11,6 +11,12 @@ use Rattle.game.specs.Play.{Over, Wins}
 use Rattle.game.proofs.Least.{mono-le, least-find}
 use Rattle.game.proofs.Within.{wonBy-is, lostBy-of, won-ends, lost-ends, lost-suc, won-mono, lost-mono}
 use Rattle.game.proofs.Depths.{won-odd}
+
+pub wins-ply : {Pos : Type 0} (next : Pos → List Pos) (seed : Pos → Seed) (best : Pos → Pos) (n : ℕ) (p : Pos) → Wins next seed best n p
+    → List·Memᴰ (best p) (next p)
+wins-ply next seed best zero p w = absurd w
+wins-ply next seed best (suc zero) p w = w .0
+wins-ply next seed best (suc (suc n)) p w = w .0
 
 module _ {Pos : Type 0} (next : Pos → List Pos) (seed : Pos → Seed) (best : Pos → Pos) (S : Pos → Type 0)
     (closed : (p : Pos) → S p → seed p ≡ live → (q : Pos) → List·Memᴰ q (next p) → S q)

@@ -15,6 +15,7 @@ use Rattle.rules.specs.Ply.{removable, listedMoves, afterPly, successors}
 use Rattle.rules.proofs.Listed.{of-successor}
 use Rattle.game.specs.Game.{voidEntry}
 use Rattle.outcomes.specs.Places.{successorEntry, successorVoid}
+use Rattle.outcomes.specs.Whole.{next}
 use Rattle.outcomes.proofs.Ranked.{own-table}
 use Rattle.outcomes.proofs.Voids.{read-void}
 use Rattle.probing.specs.Probes.{probe, Reads}
@@ -39,11 +40,13 @@ module _ (rings : ℕ) (b : List ℕ) (k : ℕ) (tablebase : List ℕ) (w : Acce
   abbrev fewer : ℕ
   fewer = lowerStart (8 * rings) k (count 1 b) (count 2 b)
 
-  -- what a move leads to is read as its entry
-  entry-is : (m : ℕ) → List·Memᴰ m (listedMoves rings b) → entryBy tablebase same fewer b m ≡ entryAfter rings k tablebase b m
-  entry-is m i =
+  -- what is read of a successor, and of what a move leads to, is its entry
+  read-is : (d : List ℕ) → List·Memᴰ d (next rings b) → probe tablebase same fewer (count 2 b) d ≡ successorEntry rings k tablebase d
+  read-is =
       probed rings k (count 1 b) (count 2 b) (w .board .rings-high) (w .in-tables .is-table .opponent-low) b (own-table rings k b (w .in-tables)) tablebase
-      (afterPly b m) (of-successor (λ n c. removable n c) rings b m i)
+
+  entry-is : (m : ℕ) → List·Memᴰ m (listedMoves rings b) → entryBy tablebase same fewer b m ≡ entryAfter rings k tablebase b m
+  entry-is m i = read-is (afterPly b m) (of-successor (λ n c. removable n c) rings b m i)
 
   module _ {c : List ℕ} {x y : ℕ} (s : Starting rings k b c x y) where
     pub reads-of : Reads (length tablebase) (8 * rings) (count 1 c) (count 2 c) x y
@@ -53,9 +56,7 @@ module _ (rings : ℕ) (b : List ℕ) (k : ℕ) (tablebase : List ℕ) (w : Acce
 
     pub void-of : any (λ d. eqb (probe tablebase x y (count 2 c) d) voidEntry) (successors (λ n c. removable n c) rings c) ≡ successorVoid rings k tablebase b
     void-of =
-        rw (s .same-is, s .fewer-is, s .board)
-        (read-void rings k tablebase b (λ d. probe tablebase same fewer (count 2 b) d)
-        (probed rings k (count 1 b) (count 2 b) (w .board .rings-high) (w .in-tables .is-table .opponent-low) b (own-table rings k b (w .in-tables)) tablebase))
+        rw (s .same-is, s .fewer-is, s .board) (read-void rings k tablebase b (λ d. probe tablebase same fewer (count 2 b) d) read-is)
 
     pub move-of : bestMove (λ m. entryBy tablebase x y c m) (listedMoves rings c) ≡ bestListed rings k tablebase b
     unfolding bestListed

@@ -99,7 +99,8 @@ fill-one rings k limit limit′ a b a′ b′ p q =
     filled-one rings k (λ c. wholeSeed c) limit limit′ a b a′ b′ (f .0 .tablebase .exact) (g .0 .tablebase .exact) (f .1) (g .1)
 
 -- two entries, of one fill or of two, are equal exactly when the outcomes are
-pub entries-outcomes : (rings rings′ k k′ limit limit′ : ℕ) (a b a′ b′ : List ℕ) → FillCall rings k limit a a′ (accepted []) → FillCall rings′ k′ limit′ b b′ (accepted [])
+pub entries-outcomes : (rings rings′ k k′ limit limit′ : ℕ) (a b a′ b′ : List ℕ) → FillCall rings k limit a a′ (accepted []) → FillCall rings′ k′ limit′ b b′
+    (accepted [])
     → (m o r m′ o′ r′ : ℕ) → AllTables rings k m o → r < size (8 * rings) m o → AllTables rings′ k′ m′ o′ → r′ < size (8 * rings′) m′ o′ → (x y : Outcome)
     → HasOutcome (next rings) (λ c. wholeSeed c) (unrank (8 * rings) m o r) x → HasOutcome (next rings′) (λ c. wholeSeed c) (unrank (8 * rings′) m′ o′ r′) y
     → (getD a′ (start (8 * rings) k m o + r) 0 ≡ getD b′ (start (8 * rings′) k′ m′ o′ + r′) 0 → x ≡ y)

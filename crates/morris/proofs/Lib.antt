@@ -1,6 +1,7 @@
 pub mod Positions
 pub mod Play
 pub mod BestMoves
+pub mod PlayByBest
 pub mod RoundTrip
 pub mod FrameRoundTrip
 pub mod FrameCases

@@ -17,9 +17,6 @@ ghost use Rattle.morris.specs.Fills.{solved, FillCall, FillPairCall};
 ghost use Rattle.morris.specs.ReadFrameCall.{frameRead, readFrameCall};
 ghost use Rattle.morris.specs.WriteFrameCall.{frameWritten, writeFrameCall, writeFrameTarget};
 
-// The entry of a position that was not filled.
-const VOID_ENTRY: u16 = 65534;
-
 // The rank of a board, or the number of a refusal.
 pub enum Ranked {
     Rank(u64),
@@ -160,7 +157,7 @@ pub fn lookup(rings: u8, board: &[u8], k: u8, tablebase: &[u16]) -> Looked
     let opponent = sets::count(position.opponent) as usize;
     let start = layout::start(&binomials, board.len(), k as usize, mover, opponent);
     let entry = tablebase[start + ranking::rank(&binomials, board.len(), position)];
-    if entry == VOID_ENTRY {
+    if entry == parts::VOID {
         return Looked::Refused(refusals::VOID);
     }
     Looked::Entry(entry)

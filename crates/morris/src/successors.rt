@@ -13,18 +13,6 @@ pub struct Starts {
     pub fewer: usize,
 }
 
-// Where table (o - 1, m) starts, which a removal from (m, o) leads to; 0 where that leaves two stones.
-fn lower_start(binomials: &[u32; 625], points: usize, k: usize, m: usize, o: usize) -> usize
-    requires { ⌜ BinomialTable (now binomials) ⌝ }
-    requires { ⌜ (points ≤ 24) × (k ≤ 9) × (3 ≤ m) × (m ≤ k) × (3 ≤ o) × (o ≤ k) ⌝ }
-    ensures { λ r. ⌜ r ≡ lowerStart points k m o ⌝ }
-{
-    if o == 3 {
-        return 0;
-    }
-    layout::start(binomials, points, k, o - 1, m)
-}
-
 // The sides change names after a ply, so those without a removal are in table (o, m).
 pub fn starts_of(
     binomials: &[u32; 625],
@@ -41,8 +29,10 @@ pub fn starts_of(
 {
     let m = sets::count(position.mover) as usize;
     let o = sets::count(position.opponent) as usize;
+    let table = sweeping::table_of(binomials, 8 * rings, k, m, o);
+    let lower = table.lower;
     Starts {
         same: layout::start(binomials, 8 * rings, k, o, m),
-        fewer: lower_start(binomials, 8 * rings, k, m, o),
+        fewer: lower.start,
     }
 }

@@ -105,7 +105,7 @@ module _ (rings k limit : ℕ) (tablebase : List ℕ) where
   done-first = record { entries = λ x y r t. absurd (before-none x y t); within = λ x y r t. absurd (before-none x y t) }
 
   -- a pair whose stones do not fit the points has no position
-  pub done-unfit : (m o : ℕ) → 8 * rings < m + o → TrueOn rings k limit (Before m o) tablebase → TrueOn rings k limit (Before m (o + 1)) tablebase
+  done-unfit : (m o : ℕ) → 8 * rings < m + o → TrueOn rings k limit (Before m o) tablebase → TrueOn rings k limit (Before m (o + 1)) tablebase
   done-unfit m o l w = record {
     entries = λ x y r t h. w .entries x y r (old x y r h (before-more m o x y t)) h;
     within = λ x y r t h. w .within x y r (old x y r h (before-more m o x y t)) h;

@@ -1,9 +1,9 @@
 -- The whole game on the boards that a tablebase reaches: a mover with two stones has lost, else the plies decide. Where the tables hold true entries,
 -- so is the entry by which a successor is judged, and none of a board's successors is void. Assumes nothing.
-use mathlib.Core.Path.{_≡_, refl, sym, subst, subst₂}
+use mathlib.Core.Path.{_≡_, refl, sym, subst, subst₂, _∙_}
 use mathlib.Core.Bool.{Bool, true, false}
-use mathlib.Core.List.{List}
-use mathlib.Core.Logic.{_⊎_, inl, inr}
+use mathlib.Core.List.{List, List·Memᴰ}
+use mathlib.Core.Logic.{_⊎_, inl, inr, ⊎-elim}
 use Prim.Native.Nat.{ℕ, _*_, _≤_, _<_}
 use native.Mathlib.Omega.{arith}
 use lib.Dec.{ltb}
@@ -34,12 +34,26 @@ unfolding wholeSeed
 whole-live b h = rw (le-ltb (count 1 b) 3 h, wholeSeed)
 
 -- one or the other
-pub whole-cases : (b : List ℕ) → ((wholeSeed b ≡ live) × (3 ≤ count 1 b)) ⊎ ((wholeSeed b ≡ ends 0) × (count 1 b < 3))
-whole-cases b = go (ltb (count 1 b) 3) refl
+two-or-three : (b : List ℕ) → (count 1 b < 3) ⊎ (3 ≤ count 1 b)
+two-or-three b = go (ltb (count 1 b) 3) refl
   where
-    go : (t : Bool) → ltb (count 1 b) 3 ≡ t → ((wholeSeed b ≡ live) × (3 ≤ count 1 b)) ⊎ ((wholeSeed b ≡ ends 0) × (count 1 b < 3))
-    go true e = let h = ltb-true (count 1 b) 3 e in inr (whole-two b h, h)
-    go false e = let h = ltb-false (count 1 b) 3 e in inl (whole-live b h, h)
+    go : (t : Bool) → ltb (count 1 b) 3 ≡ t → (count 1 b < 3) ⊎ (3 ≤ count 1 b)
+    go true e = inl (ltb-true (count 1 b) 3 e)
+    go false e = inr (ltb-false (count 1 b) 3 e)
+
+pub whole-cases : (b : List ℕ) → (wholeSeed b ≡ live) ⊎ (wholeSeed b ≡ ends 0)
+whole-cases b = ⊎-elim (λ h. inr (whole-two b h)) (λ h. inl (whole-live b h)) (two-or-three b)
+
+live-three : (b : List ℕ) → wholeSeed b ≡ live → 3 ≤ count 1 b
+live-three b e = ⊎-elim (λ h. clash (sym (whole-two b h) ∙ e)) (λ h. h) (two-or-three b)
+  where
+    clash : ends 0 ≡ live → 3 ≤ count 1 b
+    clash z = let f : _≡_ {A = ℕ} 0 1 = cc in absurd (omega arith)
+
+-- where the plies decide, they lead to boards that a tablebase reaches
+pub whole-closed : (rings k : ℕ) → rings ≤ 3 → (b : List ℕ) → Reached rings k b → wholeSeed b ≡ live → (c : List ℕ) → List·Memᴰ c (next rings b)
+    → Reached rings k c
+whole-closed rings k small b w e = successor-reached (λ n c. removable n c) removable-takes rings k small b w (live-three b e)
 
 -- a board of a table that holds true entries
 pub table-true : (rings k : ℕ) (T : ℕ → ℕ → Type 0) (tablebase : List ℕ) → TrueEntries rings k T tablebase → (b : List ℕ) → InTables rings k b
@@ -54,6 +68,16 @@ not-void : (rings : ℕ) (b : List ℕ) (e : ℕ) → TrueEntry rings b e → is
 not-void rings b e (inl a) = ne-eqb e voidEntry (λ z. omega (arith, a .0))
 not-void rings b e (inr a) = ne-eqb e voidEntry (λ z. omega (arith, a .0))
 
+pub board-reached : (rings k : ℕ) (b : List ℕ) → InTables rings k b → Reached rings k b
+board-reached rings k b s = record {
+  values = s .values;
+  points = s .points;
+  mover-low = omega (arith, s .is-table .mover-low);
+  mover-high = s .is-table .mover-high;
+  opponent-low = s .is-table .opponent-low;
+  opponent-high = s .is-table .opponent-high;
+}
+
 -- a tablebase that holds the true entries
 module _ (rings k : ℕ) (tablebase : List ℕ) (entries : TrueEntries rings k (AllTables rings k) tablebase) where
   pub board-true : (b : List ℕ) → InTables rings k b → TrueEntry rings b (entryAt rings k tablebase b)
@@ -61,23 +85,27 @@ module _ (rings k : ℕ) (tablebase : List ℕ) (entries : TrueEntries rings k (
       table-true rings k (AllTables rings k) tablebase entries b s (table-listed (8 * rings) k (count 1 b) (count 2 b) (s .is-table))
 
   pub reached-true : (b : List ℕ) → Reached rings k b → TrueEntry rings b (successorEntry rings k tablebase b)
-  reached-true b w = go (whole-cases b)
+  reached-true b w = ⊎-elim two three (two-or-three b)
     where
-      go : ((wholeSeed b ≡ live) × (3 ≤ count 1 b)) ⊎ ((wholeSeed b ≡ ends 0) × (count 1 b < 3)) → TrueEntry rings b (successorEntry rings k tablebase b)
-      go (inl (e, h)) =
+      two : count 1 b < 3 → TrueEntry rings b (successorEntry rings k tablebase b)
+      two h =
+          subst (λ (e : ℕ). TrueEntry rings b e) (sym (entry-two rings k tablebase b h))
+          (inl (omega arith, ends-depth (next rings) (λ c. wholeSeed c) b (whole-two b h)))
+
+      three : 3 ≤ count 1 b → TrueEntry rings b (successorEntry rings k tablebase b)
+      three h =
           let r : InRange k (count 1 b) (count 2 b) = record {
             mover-low = h;
             mover-high = w .mover-high;
             opponent-low = w .opponent-low;
             opponent-high = w .opponent-high;
           } in
-          subst (λ (x : ℕ). TrueEntry rings b x) (sym (entry-three rings k tablebase b h)) (board-true b (in-tables rings k b (w .values) (w .points) r))
-      go (inr (e, h)) =
-          subst (λ (x : ℕ). TrueEntry rings b x) (sym (entry-two rings k tablebase b h)) (inl (omega arith, ends-depth (next rings) (λ c. wholeSeed c) b e))
+          subst (λ (e : ℕ). TrueEntry rings b e) (sym (entry-three rings k tablebase b h)) (board-true b (in-tables rings k b (w .values) (w .points) r))
 
-  pub successors-told : rings ≤ 3 → (b : List ℕ) → Reached rings k b → 3 ≤ count 1 b → successorVoid rings k tablebase b ≡ false
+  -- no successor of a board of the tablebase is void
+  pub successors-told : rings ≤ 3 → (b : List ℕ) → InTables rings k b → successorVoid rings k tablebase b ≡ false
   unfolding successorVoid
-  successors-told small b w three =
+  successors-told small b s =
       none-any (λ c. isVoid (successorEntry rings k tablebase c)) (next rings b) (λ c m.
       not-void rings c (successorEntry rings k tablebase c)
-      (reached-true c (successor-reached (λ n c. removable n c) removable-takes rings k small b w three c m)))
+      (reached-true c (whole-closed rings k small b (board-reached rings k b s) (whole-live b (s .is-table .mover-low)) c m)))

@@ -39,7 +39,7 @@ least-cases low (e ∷ es) = go (lower (leastFrom low es) e low) (lowered (least
     go v (kept a) r = r
 
 -- no entry of the list from `low` on lies below it
-pub least-below : (low : ℕ) (l : List ℕ) (j : ℕ) → j < length l → low ≤ getD l j 0 → leastFrom low l ≤ getD l j 0 ⊎ (voidEntry ≤ getD l j 0)
+least-below : (low : ℕ) (l : List ℕ) (j : ℕ) → j < length l → low ≤ getD l j 0 → leastFrom low l ≤ getD l j 0 ⊎ (voidEntry ≤ getD l j 0)
 unfolding leastFrom
 least-below low [] j h g = absurd (omega arith)
 least-below low (e ∷ es) zero h g = go (lower (leastFrom low es) e low) (lowered (leastFrom low es) e low)

@@ -7,8 +7,11 @@ ghost use Rattle.lists.specs.Lists.{any};
 ghost use Rattle.game.specs.Game.{voidEntry};
 ghost use Rattle.parts.specs.Parts.{partOf, filledPart, lower, leastFrom};
 
-// An entry that is void.
-const VOID: u16 = 65534;
+// The entry of a draw, and of a position that is open while its table is filled.
+pub const DRAW: u16 = 65535;
+
+// The entry of a position that is not to be used.
+pub const VOID: u16 = 65534;
 
 // Every entry of a part is v.
 fn fill(part: &mut [u16], v: u16)

@@ -15,7 +15,7 @@ ghost use Rattle.probing.specs.Questions.{Readable, answers};
 use super::entries;
 
 // Entries below are depths; this one is void, the next draw.
-pub const VOID: u32 = 65534;
+pub const VOID: u32 = parts::VOID as u32;
 
 // The keys of the entries that are not won start here: the lost ones by depth, then void and draw.
 pub const NOT_WON: u32 = 65536;

@@ -68,10 +68,15 @@ pub record AcceptedEntry (rings : ℕ) (b : List ℕ) (k n : ℕ) : Type 0 where
   pub tablebase : AcceptedTablebase rings k n
   pub in-tables : InTables rings k b
 
+pub both-right : (rings : ℕ) (b : List ℕ) (k n : ℕ) → refusal (tablebasePicks rings b k n) ≡ 0
+    → (refusal (boardPicks rings b) ≡ 0) × (refusal (largestPicks rings k (countAbove k (count 1 b) (count 2 b)) n) ≡ 0)
+both-right rings b k n e =
+    both-passed (pickedRows table (boardPicks rings b)) (pickedRows table (largestPicks rings k (countAbove k (count 1 b) (count 2 b)) n)) refl e
+
 pub accepted-entry : (rings : ℕ) (b : List ℕ) (k n : ℕ) → refusal (tablebasePicks rings b k n) ≡ 0 → AcceptedEntry rings b k n
 accepted-entry rings b k n e =
     let above = countAbove k (count 1 b) (count 2 b) in
-    let p = both-passed (pickedRows table (boardPicks rings b)) (pickedRows table (largestPicks rings k above n)) refl e in
+    let p = both-right rings b k n e in
     let q = passed (pickedRows table (largestPicks rings k above n)) refl (p .1) in
     let w = accepted-board rings b (p .0) in
     let l = largest-right k above (q .0) in
@@ -129,6 +134,12 @@ module _ (rings : ℕ) (b : List ℕ) (k : ℕ) (tablebase : List ℕ) where
   pub lookup-decides : 0 ≡ refusal (tablebasePicks rings b k (length tablebase))
       → refusal (lookupPicks rings b k tablebase) ≡ cond (isVoid (entryAt rings k tablebase b)) 12 0
   lookup-decides e = one-more (pickedRows table (tablebasePicks rings b k (length tablebase))) (isVoid (entryAt rings k tablebase b)) 12 refl e
+
+  -- no refusal at all: none before the entry is read
+  pub lookup-before : refusal (lookupPicks rings b k tablebase) ≡ 0 → refusal (tablebasePicks rings b k (length tablebase)) ≡ 0
+  lookup-before e =
+      both-passed (pickedRows table (tablebasePicks rings b k (length tablebase)))
+      (record { holds = isVoid (entryAt rings k tablebase b); number = 12 } ∷ []) refl e .0
 
   -- those of the successors, where the mover is not blocked
   pub best-move-refused : (n : ℕ) → (n ≡ 0 → ⊥) → n ≡ refusal (tablebasePicks rings b k (length tablebase)) → n ≡ refusal (bestMovePicks rings b k tablebase)

@@ -54,7 +54,8 @@ module _ (rings k m o : ℕ) (a b : Table) (before : List ℕ) (s : Setting (len
     kept = st .kept;
     entries = λ x y r t h. subst (λ (e : ℕ). Entry (next rings) (λ c. pairSeed rings k m o before c) (unrank (8 * rings) x y r) e)
         (entry-unrank rings k x y r now h) (own (unrank (8 * rings) x y r) (board-in x y r t h));
-    within = λ x y r t h n e. let i = board-in x y r t h in in-time (unrank (8 * rings) x y r) n e (own (unrank (8 * rings) x y r) i) (st .most (unrank (8 * rings) x y r) i);
+    within = λ x y r t h n e. let i = board-in x y r t h in in-time (unrank (8 * rings) x y r) n e (own (unrank (8 * rings) x y r) i)
+        (st .most (unrank (8 * rings) x y r) i);
   }
     where
       own : (c : List ℕ) → InPair rings m o c → Entry (next rings) (λ x. pairSeed rings k m o before x) c (entryAt rings k now c)
@@ -62,7 +63,8 @@ module _ (rings k m o : ℕ) (a b : Table) (before : List ℕ) (s : Setting (len
           (entry c (on-pair i))
 
       in-time : (c : List ℕ) (n : ℕ) → ended (next rings) (λ x. pairSeed rings k m o before x) n c ≡ true
-          → Entry (next rings) (λ x. pairSeed rings k m o before x) c (entryAt rings k now c) → (entryAt rings k now c ≤ limit) ⊎ (entryAt rings k now c ≡ drawEntry)
+          → Entry (next rings) (λ x. pairSeed rings k m o before x) c (entryAt rings k now c) → (entryAt rings k now c ≤ limit) ⊎
+          (entryAt rings k now c ≡ drawEntry)
           → ended (next rings) (λ x. pairSeed rings k m o before x) limit c ≡ true
       in-time c n e (inl d) (inl l) = mono-le _ (ended-mono (next rings) (λ x. pairSeed rings k m o before x) c) l (d .1 .holds)
       in-time c n e (inl d) (inr q) = absurd (omega (arith, d .0))
@@ -81,12 +83,14 @@ module _ (rings k m o : ℕ) (a b : Table) (before : List ℕ) (s : Setting (len
         level low (λ c. successorEntry rings k now c) (st .exact) (λ c i e v. undecided c (live-pair rings k m o (s .pair) before valid c i e) v))
       where
         at : (x y r : ℕ) (t : Table) (same : ℕ) → Side rings k m o x y t same → r < size (8 * rings) x y → openDecided rings t same now r ≡ false
-            → entryAt rings k now (unrank (8 * rings) x y r) ≡ drawEntry → decided (next rings) (λ c. successorEntry rings k now c) (unrank (8 * rings) x y r) ≡ false
+            → entryAt rings k now (unrank (8 * rings) x y r) ≡ drawEntry → decided (next rings) (λ c. successorEntry rings k now c)
+            (unrank (8 * rings) x y r) ≡ false
         at x y r t same side h g v =
             sym (ap (λ (e : Bool). e && decided (next rings) (λ c. successorEntry rings k now c) (unrank (8 * rings) x y r))
             (eq-eqb (entryAt rings k now (unrank (8 * rings) x y r)) drawEntry v)) ∙ sym (look x y r t same side h) ∙ g
 
-        undecided : (c : List ℕ) → InPair rings m o c → successorEntry rings k now c ≡ drawEntry → decided (next rings) (λ x. successorEntry rings k now x) c ≡ false
+        undecided : (c : List ℕ) → InPair rings m o c → successorEntry rings k now c ≡ drawEntry → decided (next rings) (λ x. successorEntry rings k now x)
+            c ≡ false
         undecided c i v = go (rank-of rings k m o a b before s valid c i)
           where
             open-c : entryAt rings k now c ≡ drawEntry
@@ -106,7 +110,8 @@ module _ (rings k m o : ℕ) (a b : Table) (before : List ℕ) (s : Setting (len
         here : Setting (length now) rings k m o a b
         here = setting-now (length now) (st .kept .same-length) s
 
-        at : (x y r : ℕ) (t : Table) (same : ℕ) → Side rings k m o x y t same → BothTables m o x y → r < size (8 * rings) x y → openDecided rings t same now r ≡ true
+        at : (x y r : ℕ) (t : Table) (same : ℕ) → Side rings k m o x y t same → BothTables m o x y → r < size (8 * rings) x y → openDecided rings t same now
+            r ≡ true
             → TooDeep rings k limit (BothTables m o) (λ c. pairSeed rings k m o before c) before after
         at x y r t same side both h g =
             let c = unrank (8 * rings) x y r in

@@ -11,20 +11,20 @@ use Rattle.outcomes.specs.Places.{isVoid, tableVoid}
 use Rattle.outcomes.proofs.Voids.{part-void}
 use Rattle.parts.specs.Parts.{partOf}
 use Rattle.sweeping.specs.declared.tables.Table.{Table}
-use Rattle.sweeping.specs.Tables.{lowerStart, lowerEnd, Located}
-use Rattle.sweeping.proofs.Probed.{lower-starts}
-use Rattle.solver.proofs.NextLevel.{lower-ends}
+use Rattle.sweeping.specs.Tables.{Located}
+use Rattle.sweeping.proofs.Probed.{lower-starts, lower-ends, lower-none}
 
 pub lower-part-void : (rings k m o : ℕ) (t : Table) → Located (8 * rings) k m o t → 3 ≤ o → (tablebase : List ℕ)
     → any (λ v. isVoid v) (partOf (t .lower .start) (t .lower .end) tablebase) ≡ (leb 3 (o - 1) && tableVoid rings k tablebase (o - 1) m)
-unfolding lowerStart lowerEnd
 lower-part-void rings k m o t l h tablebase = go (eqb o 3) refl
   where
-    go : (c : Bool) → eqb o 3 ≡ c → any (λ v. isVoid v) (partOf (t .lower .start) (t .lower .end) tablebase) ≡ (leb 3 (o - 1) && tableVoid rings k tablebase (o - 1) m)
+    go : (c : Bool) → eqb o 3 ≡ c → any (λ v. isVoid v) (partOf (t .lower .start) (t .lower .end) tablebase) ≡ (leb 3 (o - 1) && tableVoid rings k tablebase
+        (o - 1) m)
     go true f =
         let e = eqb-true o 3 f in
-        let u : t .lower .start ≡ 0 = l .lower-start-is ∙ rw (f, lowerStart) in
-        let v : t .lower .end ≡ 0 = l .lower-end-is ∙ rw (f, lowerEnd) in
+        let w = lower-none (8 * rings) k m o e in
+        let u = l .lower-start-is ∙ w .0 in
+        let v = l .lower-end-is ∙ w .1 in
         ap₂ (λ (x y : ℕ). any (λ z. isVoid z) (partOf x y tablebase)) u v ∙ sym (ap (λ (n : ℕ). leb 3 (n - 1) && tableVoid rings k tablebase (n - 1) m) e)
     go false f =
         let d : o ≡ 3 → ⊥ = eqb-false o 3 f in

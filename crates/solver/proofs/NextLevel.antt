@@ -7,7 +7,7 @@ use Prim.Native.Nat.{ℕ, suc, _-_, _*_, _≤_, _<_, min}
 use native.Mathlib.Omega.{arith}
 use lib.Dec.{eqb, ltb}
 use lib.ListN.{length, getD}
-use borrow.Author.Tests.{eqb-true, eqb-false, ltb-true, ltb-false, ne-eqb}
+use borrow.Author.Tests.{eqb-true, eqb-false, ltb-true, ltb-false}
 use Rattle.board.specs.Board.{count}
 use Rattle.layout.specs.Layout.{start, end, tablebaseLength}
 use Rattle.layout.proofs.OneToOne.{InRange, end-is, end-within}
@@ -24,27 +24,23 @@ use Rattle.outcomes.proofs.PairLevels.{pair-ground}
 use Rattle.parts.specs.Parts.{partOf, leastFrom}
 use Rattle.parts.proofs.LeastDepth.{least-cases, part-below}
 use Rattle.sweeping.specs.declared.tables.Table.{Table}
-use Rattle.sweeping.specs.Tables.{lowerStart, lowerEnd, Located}
+use Rattle.sweeping.specs.Tables.{Located}
 use Rattle.solver.specs.Pairs.{InRoom, pairSwept, pairLeast, levelAfter}
 use Rattle.solver.specs.Solve.{Setting}
-use Rattle.sweeping.proofs.Probed.{lower-starts}
+use Rattle.sweeping.proofs.Probed.{lower-starts, lower-ends, lower-none}
 use Rattle.solver.proofs.Parts.{in-range, turned-pair, part-end, part-room, part-place}
 use Rattle.solver.proofs.States.{ExactBelow, State, exact-most, swept-level}
-
-pub lower-ends : (points k m o : ℕ) → 4 ≤ o → lowerEnd points k m o ≡ end points k (o - 1) m
-unfolding lowerEnd
-lower-ends points k m o h = rw (ne-eqb o 3 (λ e. omega arith), lowerEnd)
 
 -- the lower part of a table lies within the tablebase
 pub lower-room : (rings k x y : ℕ) (t : Table) → Located (8 * rings) k x y t → Pair rings k x y → (n : ℕ) → n ≡ tablebaseLength (8 * rings) k
     → (t .lower .start ≤ t .lower .end) × (t .lower .end ≤ n)
-unfolding lowerStart lowerEnd
 lower-room rings k x y t l p n e = go (eqb y 3) refl
   where
     go : (c : Bool) → eqb y 3 ≡ c → (t .lower .start ≤ t .lower .end) × (t .lower .end ≤ n)
     go true f =
-        let u : t .lower .start ≡ 0 = l .lower-start-is ∙ rw (f, lowerStart) in
-        let v : t .lower .end ≡ 0 = l .lower-end-is ∙ rw (f, lowerEnd) in
+        let w = lower-none (8 * rings) k x y (eqb-true y 3 f) in
+        let u = l .lower-start-is ∙ w .0 in
+        let v = l .lower-end-is ∙ w .1 in
         (omega arith, omega arith)
     go false f =
         let d : y ≡ 3 → ⊥ = eqb-false y 3 f in
@@ -89,7 +85,7 @@ module _ (rings k m o : ℕ) (a b : Table) (now : List ℕ) (s : Setting (length
   least-is = refl
 
   -- the least depth is from the level on, and at most void
-  pub least-range : level < voidEntry → (level ≤ pairLeast a b level now) × (pairLeast a b level now ≤ voidEntry)
+  least-range : level < voidEntry → (level ≤ pairLeast a b level now) × (pairLeast a b level now ≤ voidEntry)
   least-range h =
       let p = at ones (least-cases level _) in
       let q = at twos (least-cases level _) in
@@ -102,7 +98,7 @@ module _ (rings k m o : ℕ) (a b : Table) (now : List ℕ) (s : Setting (length
       at e (inr q) = (q .0, omega (arith, q .1))
 
   -- and no entry from the level on lies below it
-  pub least-entry : (c : List ℕ) → OnPair rings m o c → 3 ≤ count 1 c → level ≤ entryAt rings k now c
+  least-entry : (c : List ℕ) → OnPair rings m o c → 3 ≤ count 1 c → level ≤ entryAt rings k now c
       → (pairLeast a b level now ≤ entryAt rings k now c) ⊎ (voidEntry ≤ entryAt rings k now c)
   least-entry c i three h = go (i .counts)
     where
@@ -138,8 +134,16 @@ module _ (rings k m o : ℕ) (a b : Table) (now : List ℕ) (s : Setting (length
 -- all four parts lie within the tablebase
 pub in-room : {n rings k m o : ℕ} {a b : Table} → Setting n rings k m o a b → InRoom n a b
 in-room {n} {rings} {k} {m} {o} {a} {b} s = record {
-  first = (omega (arith, part-end rings k m o a (s .first)), part-room rings k m o a (s .first) (in-range {rings = rings} (s .pair) (inl (refl, refl))) n (s .room));
-  second = (omega (arith, part-end rings k o m b (s .second)), part-room rings k o m b (s .second) (in-range {rings = rings} (s .pair) (inr (refl, refl))) n (s .room));
+  first = (
+    omega (arith, part-end rings k m o a (s .first)),
+    part-room rings k m o a (s .first) (in-range {rings = rings} (s .pair) (inl (refl, refl))) n
+        (s .room),
+  );
+  second = (
+    omega (arith, part-end rings k o m b (s .second)),
+    part-room rings k o m b (s .second) (in-range {rings = rings} (s .pair) (inr (refl, refl))) n
+        (s .room),
+  );
   first-lower = lower-room rings k m o a (s .first) (s .pair) n (s .room);
   second-lower = lower-room rings k o m b (s .second) (turned-pair (s .pair)) n (s .room);
 }

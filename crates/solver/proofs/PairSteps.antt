@@ -3,7 +3,7 @@ use mathlib.Core.Path.{_≡_, refl, ap, ap₂, _∙_}
 use mathlib.Core.Bool.{Bool, true, false}
 use mathlib.Core.List.{List}
 use mathlib.Core.Logic.{_⊎_, inl, inr}
-use Prim.Native.Nat.{ℕ, zero, suc, _+_, _*_, _≤_, _<_, min}
+use Prim.Native.Nat.{ℕ, _+_, _*_, _≤_, _<_, min}
 use native.Mathlib.Omega.{arith}
 use lib.Dec.{eqb}
 use lib.ListN.{length}
@@ -15,13 +15,7 @@ use Rattle.parts.proofs.LeastDepth.{least-cases}
 use Rattle.sweeping.specs.declared.tables.Table.{Table}
 use Rattle.sweeping.specs.Levels.{swept, openDecided, Found}
 use Rattle.solver.specs.Pairs.{PairFound, pairSwept, pairLeast, levelAfter}
-use Rattle.sweeping.proofs.AtRank.{place-length}
-
-pub swept-length : (rings : ℕ) (t : Table) (same level : ℕ) (now : List ℕ) (n : ℕ) → length (swept rings t same level now n) ≡ length now
-unfolding swept
-swept-length rings t same level now zero = refl
-swept-length rings t same level now (suc n) =
-    place-length rings t same n (swept rings t same level now n) level ∙ swept-length rings t same level now n
+use Rattle.sweeping.proofs.AtRank.{swept-length}
 
 module _ (rings : ℕ) (a b : Table) (level : ℕ) (now : List ℕ) where
   abbrev once : List ℕ

@@ -63,7 +63,7 @@ module _ (rings k x y : ℕ) (t : Table) (l : Located (8 * rings) k x y t) where
       let p = place-at rings k x y b w in
       (omega (arith, p, l .start-is), omega (arith, p, l .start-is, part-end, rank-in rings x y b w))
 
-  pub part-fits : Pair rings k x y → (same n : ℕ) → same ≡ start (8 * rings) k y x → n ≡ tablebaseLength (8 * rings) k → Fits n rings t same
+  part-fits : Pair rings k x y → (same n : ℕ) → same ≡ start (8 * rings) k y x → n ≡ tablebaseLength (8 * rings) k → Fits n rings t same
   part-fits p same n f e = record {
     small = p .small;
     end-is = part-end ∙ ap₂ (λ (u v : ℕ). t .own .start + size (8 * rings) u v) (sym (l .mover-is)) (sym (l .opponent-is));
@@ -72,7 +72,7 @@ module _ (rings k x y : ℕ) (t : Table) (l : Located (8 * rings) k x y t) where
   }
 
   -- filled with one value
-  pub part-kept : (T : ℕ → ℕ → Type 0) → T x y → (v : ℕ) (now : List ℕ) → InRange k x y → length now ≡ tablebaseLength (8 * rings) k
+  part-kept : (T : ℕ → ℕ → Type 0) → T x y → (v : ℕ) (now : List ℕ) → InRange k x y → length now ≡ tablebaseLength (8 * rings) k
       → Kept rings k T now (filledPart (t .own .start) (t .own .end) v now)
   part-kept T h v now r e = record {
     same-length = filled-length (t .own .start) (t .own .end) v now (omega (arith, part-end)) (part-room r (length now) e);
@@ -85,7 +85,7 @@ module _ (rings k x y : ℕ) (t : Table) (l : Located (8 * rings) k x y t) where
       go j none (inl q) = absurd (none x y (j - t .own .start) h (omega (arith, q .0, q .1, part-end)) (omega (arith, q .0, l .start-is)))
       go j none (inr q) = q
 
-  pub part-filled : (v : ℕ) (now b : List ℕ) → InRange k x y → length now ≡ tablebaseLength (8 * rings) k → InTable rings x y b
+  part-filled : (v : ℕ) (now b : List ℕ) → InRange k x y → length now ≡ tablebaseLength (8 * rings) k → InTable rings x y b
       → entryAt rings k (filledPart (t .own .start) (t .own .end) v now) b ≡ v
   part-filled v now b r e w =
       let q = part-place b w in
@@ -134,7 +134,8 @@ module _ (rings k m o : ℕ) (a b : Table) (now : List ℕ) (s : Setting (length
 
       -- a board of the first table, which the second may or may not cover
       covered : InTable rings m o c
-          → ((b .own .start ≤ place rings k c) × (place rings k c < b .own .end)) ⊎ (getD (pairFilled a b v now) (place rings k c) 0 ≡ getD once (place rings k c) 0)
+          → ((b .own .start ≤ place rings k c) × (place rings k c < b .own .end)) ⊎
+          (getD (pairFilled a b v now) (place rings k c) 0 ≡ getD once (place rings k c) 0)
           → entryAt rings k (pairFilled a b v now) c ≡ v
       covered w (inl q) = entry-place rings k (pairFilled a b v now) c
           ∙ filled-in (b .own .start) (b .own .end) v once (omega (arith, part-end rings k o m b (s .second)))

@@ -123,7 +123,8 @@ module _ (rings k m o : ℕ) (a b : Table) (before : List ℕ) (s : Setting (len
 
     once-amid : Amid rings k m o (s .pair) before valid level DoneOnce once
     once-amid = swept-amid rings k m o (s .pair) m o a (b .own .start) (first-side s) before valid level low none now room
-        (level-start (next rings) (λ c. pairSeed rings k m o before c) (OnPair rings m o) (λ c. successorEntry rings k now c) level (st .exact)) (size (8 * rings) m o) (omega arith)
+        (level-start (next rings) (λ c. pairSeed rings k m o before c) (OnPair rings m o) (λ c. successorEntry rings k now c) level (st .exact))
+        (size (8 * rings) m o) (omega arith)
 
     twice-kept : Kept rings k (BothTables m o) once twice
     twice-kept = swept-kept rings k m o (s .pair) o m b (a .own .start) (second-side s) level once (size (8 * rings) o m) (omega arith)

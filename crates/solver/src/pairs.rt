@@ -10,11 +10,9 @@ ghost use Rattle.outcomes.specs.Pair.{LowerValid};
 ghost use Rattle.sweeping.specs.Levels.{Fits};
 ghost use Rattle.solver.specs.Pairs.{InRoom, pairSwept, pairFilled, pairLeast, levelAfter, PairFound};
 ghost use Rattle.solver.specs.Solve.{Setting, PairFill};
-use sweeping::DRAW;
+use parts::DRAW;
+use parts::VOID;
 use sweeping::Table;
-
-// The entry of a position that is not to be used.
-pub const VOID: u16 = 65534;
 
 // Both tables of a pair at a level; they are one where both sides have as many stones.
 fn sweep_pair(
@@ -30,7 +28,7 @@ fn sweep_pair(
     requires { ⌜ BinomialTable (now binomials) ⌝ }
     requires { ⌜ NeighbourMasks rings (now near) ⌝ }
     requires { ⌜ MillMasks rings (now mills) ⌝ }
-    requires { ⌜ Fits (length (now tablebase)) rings first (second .own .start) × Fits (length (now tablebase)) rings second (first .own .start) × (level < 65534) ⌝ }
+    requires { ⌜ Fits (length (now tablebase)) rings first (second .own .start) × Fits (length (now tablebase)) rings second (first .own .start) × (level < voidEntry) ⌝ }
     ensures { λ _. ⌜ now (tablebase .exit) ≡ pairSwept rings first second level (now (tablebase .entry)) ⌝ }
 {
     let one = first.own;

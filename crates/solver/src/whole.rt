@@ -11,7 +11,7 @@ ghost use Rattle.outcomes.specs.Pair.{Pair, LowerValid};
 ghost use Rattle.outcomes.specs.Order.{TrueOn, Before};
 ghost use Rattle.solver.specs.Solve.{PairFill, PairsFilled, WholeFill};
 use super::pairs;
-use super::pairs::VOID;
+use parts::VOID;
 
 // Whether an entry is void in the lower tables of the pair (m, o) and (o, m).
 pub fn lower_void(

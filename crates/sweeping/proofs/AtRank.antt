@@ -3,7 +3,7 @@
 use mathlib.Core.Path.{_≡_, refl, sym, ap, ap₂, subst, _∙_}
 use mathlib.Core.Bool.{Bool, true, false, _&&_}
 use mathlib.Core.List.{List}
-use Prim.Native.Nat.{ℕ, _+_, _*_, _<_}
+use Prim.Native.Nat.{ℕ, zero, suc, _+_, _*_, _<_}
 use native.Mathlib.Numerals.{add-one}
 use lib.ListN.{length, set, length-set}
 use Rattle.board.specs.declared.position.Position.{Position}
@@ -76,7 +76,8 @@ module _ (rings : ℕ) (t : Table) (same r : ℕ) (now : List ℕ) where
   unfolding openDecided
   closed-undecided e = rw (e, openDecided)
 
-  pub open-decided : isOpen t now r ≡ true → (d : Bool) → d ≡ decided (next rings) (judged rings t same now) (ranked rings t same r) → d ≡ openDecided rings t same now r
+  pub open-decided : isOpen t now r ≡ true → (d : Bool) → d ≡ decided (next rings) (judged rings t same now) (ranked rings t same r) → d ≡ openDecided rings
+      t same now r
   unfolding openDecided
   open-decided e d h = rw (e, openDecided) h
 
@@ -98,3 +99,8 @@ module _ (rings : ℕ) (t : Table) (same level : ℕ) (now : List ℕ) where
   pub swept-more : (r : ℕ) (l : List ℕ) → l ≡ swept rings t same level now r → sweptPlace rings t same level l r ≡ swept rings t same level now (r + 1)
   unfolding swept
   swept-more r l e = rw (e, add-one r)
+
+  pub swept-length : (n : ℕ) → length (swept rings t same level now n) ≡ length now
+  unfolding swept
+  swept-length zero = refl
+  swept-length (suc n) = place-length rings t same n (swept rings t same level now n) level ∙ swept-length n

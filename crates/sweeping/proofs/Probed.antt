@@ -11,7 +11,7 @@ use borrow.Author.Tests.{ltb-true, ltb-false, eq-eqb, ne-eqb}
 use Rattle.board.specs.Board.{count}
 use Rattle.sizes.specs.Size.{size}
 use Rattle.ranking.specs.Rank.{rank}
-use Rattle.layout.specs.Layout.{start, tablebaseLength}
+use Rattle.layout.specs.Layout.{start, end, tablebaseLength}
 use Rattle.layout.proofs.OneToOne.{InRange, end-is, end-within}
 use Rattle.rules.specs.Ply.{removable, afterPly, removedOf}
 use Rattle.rules.proofs.Listed.{successor-of, removable-takes}
@@ -22,16 +22,21 @@ use Rattle.outcomes.proofs.Ranked.{InTable, place-at}
 use Rattle.outcomes.proofs.Entries.{entry-place, entry-two, entry-three}
 use Rattle.probing.specs.Probes.{probe, Reads}
 use Rattle.probing.proofs.Reading.{probe-same, probe-two, probe-fewer}
-use Rattle.sweeping.specs.Tables.{lowerStart}
+use Rattle.sweeping.specs.Tables.{lowerStart, lowerEnd}
 
 module _ (points k m o : ℕ) where
-  pub lower-none : o ≡ 3 → lowerStart points k m o ≡ 0
-  unfolding lowerStart
-  lower-none e = rw (eq-eqb o 3 e, lowerStart)
-
   pub lower-starts : 4 ≤ o → lowerStart points k m o ≡ start points k (o - 1) m
   unfolding lowerStart
   lower-starts h = rw (ne-eqb o 3 (λ e. omega arith), lowerStart)
+
+  pub lower-ends : 4 ≤ o → lowerEnd points k m o ≡ end points k (o - 1) m
+  unfolding lowerEnd
+  lower-ends h = rw (ne-eqb o 3 (λ e. omega arith), lowerEnd)
+
+  -- the part is empty where a removal leaves two stones
+  pub lower-none : o ≡ 3 → (lowerStart points k m o ≡ 0) × (lowerEnd points k m o ≡ 0)
+  unfolding lowerStart lowerEnd
+  lower-none e = (rw (eq-eqb o 3 e, lowerStart), rw (eq-eqb o 3 e, lowerEnd))
 
   -- the tables of the successors of (m, o)
   pub reads-within : InRange k m o → (n : ℕ) → n ≡ tablebaseLength points k → Reads n points m o (start points k o m) (lowerStart points k m o)

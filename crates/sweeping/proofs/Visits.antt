@@ -73,7 +73,8 @@ module _ (rings k m o : ℕ) (pair : Pair rings k m o) (x y : ℕ) (t : Table) (
 
     -- the place of rank r, swept
     swept-is : (n : ℕ) → sweptPlace rings t same n now r
-        ≡ elim (eqb (entryAt rings k now (unrank (8 * rings) x y r)) drawEntry && hit (next rings) (λ b. successorEntry rings k now b) n (unrank (8 * rings) x y r)) [
+        ≡ elim (eqb (entryAt rings k now (unrank (8 * rings) x y r)) drawEntry && hit (next rings) (λ b. successorEntry rings k now b) n
+        (unrank (8 * rings) x y r)) [
           | true ↦ set now (place rings k (unrank (8 * rings) x y r)) n
           | false ↦ now
         ]
@@ -81,7 +82,7 @@ module _ (rings k m o : ℕ) (pair : Pair rings k m o) (x y : ℕ) (t : Table) (
     swept-is n =
         ap₂ (λ (c : Bool) (i : ℕ). elim c as (λ d. List ℕ) [ true ↦ set now i n | false ↦ now ]) (ap₂ (λ (a b : Bool). a && b) open-is (hit-is n)) place-is
 
-    pub place-kept : (n : ℕ) → Kept rings k (BothTables m o) now (sweptPlace rings t same n now r)
+    place-kept : (n : ℕ) → Kept rings k (BothTables m o) now (sweptPlace rings t same n now r)
     unfolding sweptPlace
     place-kept n = go (isOpen t now r && hit (next rings) (judged rings t same now) n (ranked rings t same r))
       where
@@ -103,7 +104,8 @@ module _ (rings k m o : ℕ) (pair : Pair rings k m o) (x y : ℕ) (t : Table) (
       earlier : D b → Done n b
       ranked-below : (r : ℕ) → r < n → b ≡ unrank (8 * rings) x y r → Done n b
 
-    amid-more : (E F : List ℕ → Type 0) (now : List ℕ) → ((b : List ℕ) → F b → E b) → Amid rings k m o pair before valid level E now → Amid rings k m o pair before valid level F now
+    amid-more : (E F : List ℕ → Type 0) (now : List ℕ) → ((b : List ℕ) → F b → E b) → Amid rings k m o pair before valid level E now → Amid rings k m o pair
+        before valid level F now
     amid-more E F now f w = record { seeds = w .seeds; low = w .low; fresh = w .fresh; done = λ p s e d x. w .done p s e (f p d) x }
 
     pub swept-amid : (now : List ℕ) → length now ≡ tablebaseLength (8 * rings) k → Amid rings k m o pair before valid level D now

@@ -4,12 +4,11 @@ ghost use Prim.Native.Nat.{_+_, _*_, _<_};
 ghost use lib.ListN.{length};
 ghost use Rattle.sizes.specs.Size.{size};
 ghost use Rattle.sizes.specs.Binomial.{BinomialTable};
+ghost use Rattle.game.specs.Game.{voidEntry};
 ghost use Rattle.plies.specs.Masks.{NeighbourMasks, MillMasks};
 ghost use Rattle.sweeping.specs.Levels.{Fits, isOpen, sweptPlace, swept, openDecided, Found};
 use super::tables::Table;
-
-// The entry of a position that is open, and of a draw in the end.
-pub const DRAW: u16 = 65535;
+use parts::DRAW;
 
 // Whether the position of rank r is open.
 fn is_open(tablebase: &[u16], table: Table, r: usize) -> bool
@@ -35,7 +34,7 @@ fn sweep_place(
     requires { ⌜ BinomialTable (now binomials) ⌝ }
     requires { ⌜ NeighbourMasks rings (now near) ⌝ }
     requires { ⌜ MillMasks rings (now mills) ⌝ }
-    requires { ⌜ Fits (length (now tablebase)) rings table same × (r < size (8 * rings) (table .mover) (table .opponent)) × (level < 65534) ⌝ }
+    requires { ⌜ Fits (length (now tablebase)) rings table same × (r < size (8 * rings) (table .mover) (table .opponent)) × (level < voidEntry) ⌝ }
     ensures { λ _. ⌜ now (tablebase .exit) ≡ sweptPlace rings table same level (now (tablebase .entry)) r ⌝ }
 {
     if is_open(tablebase, table, r) {
@@ -72,7 +71,7 @@ pub fn sweep_table(
     requires { ⌜ BinomialTable (now binomials) ⌝ }
     requires { ⌜ NeighbourMasks rings (now near) ⌝ }
     requires { ⌜ MillMasks rings (now mills) ⌝ }
-    requires { ⌜ Fits (length (now tablebase)) rings table same × (level < 65534) ⌝ }
+    requires { ⌜ Fits (length (now tablebase)) rings table same × (level < voidEntry) ⌝ }
     ensures { λ _. ⌜ now (tablebase .exit) ≡ swept rings table same level (now (tablebase .entry)) (size (8 * rings) (table .mover) (table .opponent)) ⌝ }
 {
     let own = table.own;

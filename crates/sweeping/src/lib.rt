@@ -2,7 +2,6 @@
 mod levels;
 mod tables;
 
-pub use levels::DRAW;
 pub use levels::some_decided;
 pub use levels::sweep_table;
 pub use tables::Part;

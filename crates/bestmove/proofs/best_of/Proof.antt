@@ -69,8 +69,11 @@ loop-again c =
     let n = c .before in
     let x = n .before .before .before in
     let e = n .with-entry2 .ensures in
-    let h = n .before .before .loop-test .taken in
-    (omega (arith, h), running-more _ _ (x .loop .i) (x .loop .best) (n .with-entry2 .result) h (x .loop .inv .1) (e .0) (e .1) (c .better .result) (c .better .ensures))
+    let h = n .before .before .loop-test .taken in (
+      omega (arith, h),
+      running-more _ _ (x .loop .i) (x .loop .best) (n .with-entry2 .result) h (x .loop .inv .1) (e .0) (e .1) (c .better .result)
+          (c .better .ensures),
+    )
 
 returns : tie.Need-returns Inv-loop μ-loop
 returns c =

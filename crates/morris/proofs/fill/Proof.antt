@@ -12,12 +12,16 @@ use borrow.Author.Needs.{needs}
 use Rattle.morris.proofs.fill.Statement.{statement}
 use Rattle.morris.proofs.fill.Tie as tie
 
+-- the entry of the call, seen from past its first refusals
+abbrev entered : tie.Else1 → tie.Start
+entered c = c .before .before .before .before .before
+
 -- past the refusals
 none : (c : tie.Else1)
-    → 0 ≡ refusal (fillPicks (c .before .before .before .before .before .args .rings) (c .before .before .before .before .before .args .k) (c .before .before .before .before .before .args .limit) (length (c .before .before .before .before .before .args .tablebase .now)))
+    → 0 ≡ refusal (fillPicks (entered c .args .rings) (entered c .args .k) (entered c .args .limit) (length (entered c .args .tablebase .now)))
 none c = sym (c .if1 .left) ∙ c .before .of-fill .ensures
 
-known : (c : tie.Else1) → AcceptedFill (c .before .before .before .before .before .args .rings) (c .before .before .before .before .before .args .k) (c .before .before .before .before .before .args .limit) (length (c .before .before .before .before .before .args .tablebase .now))
+known : (c : tie.Else1) → AcceptedFill (entered c .args .rings) (entered c .args .k) (entered c .args .limit) (length (entered c .args .tablebase .now))
 known c = accepted-fill _ _ _ _ (sym (none c))
 
 binomial-table-requires : tie.Need-binomial-table-requires
@@ -30,7 +34,8 @@ returns : tie.Need-returns
 returns c =
     let a = c .before .before .before .before .before .args in
     promise-refused (fillPicks (a .rings) (a .k) (a .limit) (length (a .tablebase .now))) (fill-last (a .rings) (a .k) (a .limit) (length (a .tablebase .now)))
-    (λ (deep : Bool). WholeFill (a .rings) (a .k) (a .limit) (a .tablebase .now) (a .tablebase .now) deep) (a .tablebase .now) (a .tablebase .now) (c .before .of-fill .result) (c .if1 .taken) (c .before .of-fill .ensures)
+    (λ (deep : Bool). WholeFill (a .rings) (a .k) (a .limit) (a .tablebase .now) (a .tablebase .now) deep) (a .tablebase .now) (a .tablebase .now)
+    (c .before .of-fill .result) (c .if1 .taken) (c .before .of-fill .ensures)
 
 neighbour-masks-requires : tie.Need-neighbour-masks-requires
 neighbour-masks-requires c κs = known c .tablebase .rings-high
@@ -61,8 +66,10 @@ returns-2 : tie.Need-returns-2
 returns-2 c =
     let a = c .before .before .before .before .before .before .before .before .before .before .before .before .before .before .before .args in
     promise-deep (fillPicks (a .rings) (a .k) (a .limit) (length (a .tablebase .now))) (fill-last (a .rings) (a .k) (a .limit) (length (a .tablebase .now)))
-    (λ (deep : Bool). WholeFill (a .rings) (a .k) (a .limit) (a .tablebase .now) (c .before .before .before .solve-all .last .0) deep) (a .tablebase .now) (c .before .before .before .solve-all .last .0) (none (c .before .before .before .before .before .before .before .before .before .before))
-    (subst (λ (deep : Bool). WholeFill (a .rings) (a .k) (a .limit) (a .tablebase .now) (c .before .before .before .solve-all .last .0) deep) (c .if2 .taken) (c .before .before .before .solve-all .ensures))
+    (λ (deep : Bool). WholeFill (a .rings) (a .k) (a .limit) (a .tablebase .now) (c .before .before .before .solve-all .last .0) deep) (a .tablebase .now)
+    (c .before .before .before .solve-all .last .0) (none (c .before .before .before .before .before .before .before .before .before .before))
+    (subst (λ (deep : Bool). WholeFill (a .rings) (a .k) (a .limit) (a .tablebase .now) (c .before .before .before .solve-all .last .0) deep) (c .if2 .taken)
+    (c .before .before .before .solve-all .ensures))
 
 same-length-2 : tie.Need-same-length-2
 same-length-2 c = search needs
@@ -71,8 +78,10 @@ returns-3 : tie.Need-returns-3
 returns-3 c =
     let a = c .before .before .before .before .before .before .before .before .before .before .before .before .before .before .before .args in
     promise-filled (fillPicks (a .rings) (a .k) (a .limit) (length (a .tablebase .now))) (fill-last (a .rings) (a .k) (a .limit) (length (a .tablebase .now)))
-    (λ (deep : Bool). WholeFill (a .rings) (a .k) (a .limit) (a .tablebase .now) (c .before .before .before .solve-all .last .0) deep) (a .tablebase .now) (c .before .before .before .solve-all .last .0) (none (c .before .before .before .before .before .before .before .before .before .before))
-    (subst (λ (deep : Bool). WholeFill (a .rings) (a .k) (a .limit) (a .tablebase .now) (c .before .before .before .solve-all .last .0) deep) (c .if2 .left) (c .before .before .before .solve-all .ensures))
+    (λ (deep : Bool). WholeFill (a .rings) (a .k) (a .limit) (a .tablebase .now) (c .before .before .before .solve-all .last .0) deep) (a .tablebase .now)
+    (c .before .before .before .solve-all .last .0) (none (c .before .before .before .before .before .before .before .before .before .before))
+    (subst (λ (deep : Bool). WholeFill (a .rings) (a .k) (a .limit) (a .tablebase .now) (c .before .before .before .solve-all .last .0) deep) (c .if2 .left)
+    (c .before .before .before .solve-all .ensures))
 
 pub fill-spec : {M : Type 1} → statement M
 fill-spec =

@@ -17,16 +17,20 @@ use borrow.Author.Needs.{needs}
 use Rattle.morris.proofs.fill_pair.Statement.{statement}
 use Rattle.morris.proofs.fill_pair.Tie as tie
 
+-- the entry of the call, seen from past its first refusals
+abbrev entered : tie.Else1 → tie.Start
+entered c = c .before .before .before .before .before
+
 -- past the first refusals
-none : (c : tie.Else1) → 0 ≡ refusal (tablesPicks (c .before .before .before .before .before .args .rings) (c .before .before .before .before .before .args .mover) (c .before .before .before .before .before .args .opponent) (c .before .before .before .before .before .args .k)
-    (c .before .before .before .before .before .args .limit) (length (c .before .before .before .before .before .args .tablebase .now)))
+none : (c : tie.Else1) → 0 ≡ refusal (tablesPicks (entered c .args .rings) (entered c .args .mover) (entered c .args .opponent) (entered c .args .k)
+    (entered c .args .limit) (length (entered c .args .tablebase .now)))
 none c = sym (c .if1 .left) ∙ c .before .of-pair .ensures
 
-known : (c : tie.Else1) → AcceptedPair (c .before .before .before .before .before .args .rings) (c .before .before .before .before .before .args .mover) (c .before .before .before .before .before .args .opponent) (c .before .before .before .before .before .args .k)
-    (c .before .before .before .before .before .args .limit) (length (c .before .before .before .before .before .args .tablebase .now))
+known : (c : tie.Else1) → AcceptedPair (entered c .args .rings) (entered c .args .mover) (entered c .args .opponent) (entered c .args .k)
+    (entered c .args .limit) (length (entered c .args .tablebase .now))
 known c = accepted-pair _ _ _ _ _ _ (sym (none c))
 
-is-pair : (c : tie.Else1) → Pair (c .before .before .before .before .before .args .rings) (c .before .before .before .before .before .args .k) (c .before .before .before .before .before .args .mover) (c .before .before .before .before .before .args .opponent)
+is-pair : (c : tie.Else1) → Pair (entered c .args .rings) (entered c .args .k) (entered c .args .mover) (entered c .args .opponent)
 is-pair c =
     let w = known c in
     record {
@@ -38,11 +42,12 @@ is-pair c =
     }
 
 -- whether a lower entry is void decides
-decided : (c : tie.Else1) (t : Bool) → lowerVoid (c .before .before .before .before .before .args .rings) (c .before .before .before .before .before .args .k) (c .before .before .before .before .before .args .tablebase .now) (c .before .before .before .before .before .args .mover) (c .before .before .before .before .before .args .opponent) ≡ t
-    → refusal (pairPicks (c .before .before .before .before .before .args .rings) (c .before .before .before .before .before .args .mover) (c .before .before .before .before .before .args .opponent) (c .before .before .before .before .before .args .k) (c .before .before .before .before .before .args .limit)
-    (c .before .before .before .before .before .args .tablebase .now)) ≡ cond t 12 0
+decided : (c : tie.Else1) (t : Bool) → lowerVoid (entered c .args .rings) (entered c .args .k) (entered c .args .tablebase .now) (entered c .args .mover)
+    (entered c .args .opponent) ≡ t
+    → refusal (pairPicks (entered c .args .rings) (entered c .args .mover) (entered c .args .opponent) (entered c .args .k) (entered c .args .limit)
+    (entered c .args .tablebase .now)) ≡ cond t 12 0
 decided c t e =
-    let a = c .before .before .before .before .before .args in
+    let a = entered c .args in
     pair-decides (a .rings) (a .mover) (a .opponent) (a .k) (a .limit) (a .tablebase .now) (none c) ∙ ap (λ (u : Bool). cond u 12 0) e
 
 binomial-table-requires : tie.Need-binomial-table-requires
@@ -55,8 +60,10 @@ returns : tie.Need-returns
 returns c =
     let a = c .before .before .before .before .before .args in
     let n = c .before .of-pair .result in
-    promise-refused (pairPicks (a .rings) (a .mover) (a .opponent) (a .k) (a .limit) (a .tablebase .now)) (pair-last (a .rings) (a .mover) (a .opponent) (a .k) (a .limit) (a .tablebase .now))
-    (λ (deep : Bool). PairFill (a .rings) (a .k) (a .mover) (a .opponent) (a .limit) (a .tablebase .now) (a .tablebase .now) deep) (a .tablebase .now) (a .tablebase .now)
+    promise-refused (pairPicks (a .rings) (a .mover) (a .opponent) (a .k) (a .limit) (a .tablebase .now))
+    (pair-last (a .rings) (a .mover) (a .opponent) (a .k) (a .limit) (a .tablebase .now))
+    (λ (deep : Bool). PairFill (a .rings) (a .k) (a .mover) (a .opponent) (a .limit) (a .tablebase .now) (a .tablebase .now) deep) (a .tablebase .now)
+    (a .tablebase .now)
     n (c .if1 .taken) (pair-refused (a .rings) (a .mover) (a .opponent) (a .k) (a .limit) (a .tablebase .now) n (c .if1 .taken) (c .before .of-pair .ensures))
 
 lower-void-requires : tie.Need-lower-void-requires
@@ -71,9 +78,11 @@ same-length c = search needs
 returns-2 : tie.Need-returns-2
 returns-2 c =
     let x = c .before .before .before .before in
-    let a = x .before .before .before .before .before .args in
-    promise-refused (pairPicks (a .rings) (a .mover) (a .opponent) (a .k) (a .limit) (a .tablebase .now)) (pair-last (a .rings) (a .mover) (a .opponent) (a .k) (a .limit) (a .tablebase .now))
-    (λ (deep : Bool). PairFill (a .rings) (a .k) (a .mover) (a .opponent) (a .limit) (a .tablebase .now) (a .tablebase .now) deep) (a .tablebase .now) (a .tablebase .now)
+    let a = entered x .args in
+    promise-refused (pairPicks (a .rings) (a .mover) (a .opponent) (a .k) (a .limit) (a .tablebase .now))
+    (pair-last (a .rings) (a .mover) (a .opponent) (a .k) (a .limit) (a .tablebase .now))
+    (λ (deep : Bool). PairFill (a .rings) (a .k) (a .mover) (a .opponent) (a .limit) (a .tablebase .now) (a .tablebase .now) deep) (a .tablebase .now)
+    (a .tablebase .now)
     12 (λ z. absurd (omega arith)) (sym (decided x true (sym (c .before .lower-void .ensures) ∙ c .if2 .taken)))
 
 neighbour-masks-requires : tie.Need-neighbour-masks-requires
@@ -88,7 +97,7 @@ cast-solve-pair c = omega (arith, known (c .before .before .before .before .befo
 solve-pair-requires : tie.Need-solve-pair-requires
 solve-pair-requires c κs =
     let x = c .before .before .before .before .before .before .before .before .before .before in
-    let a = x .before .before .before .before .before .args in
+    let a = entered x .args in
     let w = known x in (
       c .before .before .before .before .before .before .before .before .before .before .before .before .before .binomial-table .ensures,
       (
@@ -98,8 +107,10 @@ solve-pair-requires c κs =
           (
             (is-pair x, w .tablebase .largest-high, w .tablebase .exact),
             (
-              void-free (a .rings) (a .k) (a .tablebase .now) (w .tablebase .exact) (λ i. omega (arith, x .before .before .before .before .slice-known .given i)) (a .mover) (a .opponent) (is-pair x)
-                  (sym (c .before .before .before .before .before .before .before .lower-void .ensures) ∙ c .before .before .before .before .before .before .if2 .left),
+              void-free (a .rings) (a .k) (a .tablebase .now) (w .tablebase .exact)
+                  (λ i. omega (arith, x .before .before .before .before .slice-known .given i)) (a .mover) (a .opponent) (is-pair x)
+                  (sym (c .before .before .before .before .before .before .before .lower-void .ensures)
+                  ∙ c .before .before .before .before .before .before .if2 .left),
               omega (arith, w .limit-high),
             ),
           ),
@@ -113,12 +124,15 @@ same-length-2 c = search needs
 returns-3 : tie.Need-returns-3
 returns-3 c =
     let x = c .before .before .before .before .before .before .before .before .before .before .before .before .before .before in
-    let a = x .before .before .before .before .before .args in
+    let a = entered x .args in
     let after : List ℕ = c .before .before .before .solve-pair .last .0 in
-    promise-deep (pairPicks (a .rings) (a .mover) (a .opponent) (a .k) (a .limit) (a .tablebase .now)) (pair-last (a .rings) (a .mover) (a .opponent) (a .k) (a .limit) (a .tablebase .now))
+    promise-deep (pairPicks (a .rings) (a .mover) (a .opponent) (a .k) (a .limit) (a .tablebase .now))
+    (pair-last (a .rings) (a .mover) (a .opponent) (a .k) (a .limit) (a .tablebase .now))
     (λ (deep : Bool). PairFill (a .rings) (a .k) (a .mover) (a .opponent) (a .limit) (a .tablebase .now) (after) deep) (a .tablebase .now) after
-    (sym (decided x false (sym (c .before .before .before .before .before .before .before .before .before .before .before .lower-void .ensures) ∙ c .before .before .before .before .before .before .before .before .before .before .if2 .left)))
-    (subst (λ (deep : Bool). PairFill (a .rings) (a .k) (a .mover) (a .opponent) (a .limit) (a .tablebase .now) (after) deep) (c .if3 .taken) (c .before .before .before .solve-pair .ensures))
+    (sym (decided x false (sym (c .before .before .before .before .before .before .before .before .before .before .before .lower-void .ensures)
+    ∙ c .before .before .before .before .before .before .before .before .before .before .if2 .left)))
+    (subst (λ (deep : Bool). PairFill (a .rings) (a .k) (a .mover) (a .opponent) (a .limit) (a .tablebase .now) (after) deep) (c .if3 .taken)
+    (c .before .before .before .solve-pair .ensures))
 
 same-length-3 : tie.Need-same-length-3
 same-length-3 c = search needs
@@ -126,12 +140,15 @@ same-length-3 c = search needs
 returns-4 : tie.Need-returns-4
 returns-4 c =
     let x = c .before .before .before .before .before .before .before .before .before .before .before .before .before .before in
-    let a = x .before .before .before .before .before .args in
+    let a = entered x .args in
     let after : List ℕ = c .before .before .before .solve-pair .last .0 in
-    promise-filled (pairPicks (a .rings) (a .mover) (a .opponent) (a .k) (a .limit) (a .tablebase .now)) (pair-last (a .rings) (a .mover) (a .opponent) (a .k) (a .limit) (a .tablebase .now))
+    promise-filled (pairPicks (a .rings) (a .mover) (a .opponent) (a .k) (a .limit) (a .tablebase .now))
+    (pair-last (a .rings) (a .mover) (a .opponent) (a .k) (a .limit) (a .tablebase .now))
     (λ (deep : Bool). PairFill (a .rings) (a .k) (a .mover) (a .opponent) (a .limit) (a .tablebase .now) (after) deep) (a .tablebase .now) after
-    (sym (decided x false (sym (c .before .before .before .before .before .before .before .before .before .before .before .lower-void .ensures) ∙ c .before .before .before .before .before .before .before .before .before .before .if2 .left)))
-    (subst (λ (deep : Bool). PairFill (a .rings) (a .k) (a .mover) (a .opponent) (a .limit) (a .tablebase .now) (after) deep) (c .if3 .left) (c .before .before .before .solve-pair .ensures))
+    (sym (decided x false (sym (c .before .before .before .before .before .before .before .before .before .before .before .lower-void .ensures)
+    ∙ c .before .before .before .before .before .before .before .before .before .before .if2 .left)))
+    (subst (λ (deep : Bool). PairFill (a .rings) (a .k) (a .mover) (a .opponent) (a .limit) (a .tablebase .now) (after) deep) (c .if3 .left)
+    (c .before .before .before .solve-pair .ensures))
 
 pub fill-pair-spec : {M : Type 1} → statement M
 fill-pair-spec =

@@ -33,27 +33,27 @@ count-requires-2 c κs = search needs
 cast-o : tie.Need-cast-o
 cast-o c = search needs
 
+mul-table-of : tie.Need-mul-table-of
+mul-table-of c = search needs
+
+table-of-requires : tie.Need-table-of-requires
+table-of-requires c κs = let s = c .before .before in (s .pre .0, omega (arith, s .pre .1 .0 .small, s .pre .1 .1, mover-is c, opponent-is c))
+
 mul-start : tie.Need-mul-start
 mul-start c = search needs
 
 start-requires : tie.Need-start-requires
-start-requires c κs = let s = c .before .before in (s .pre .0, omega (arith, s .pre .1 .0 .small, s .pre .1 .1, mover-is c, opponent-is c))
-
-mul-lower-start : tie.Need-mul-lower-start
-mul-lower-start c = search needs
-
-lower-start-requires : tie.Need-lower-start-requires
-lower-start-requires c κs =
-    let n = c .before in
+start-requires c κs =
+    let n = c .before .before in
     let s = n .before .before in
     (s .pre .0, omega (arith, s .pre .1 .0 .small, s .pre .1 .1, mover-is n, opponent-is n))
 
 returns : tie.Need-returns
 returns c =
-    let n = c .before .before in
+    let n = c .before .before .before in
     let a = n .before .before .args in (
-      c .before .start .ensures .0 ∙ ap₂ (λ (o m : ℕ). start (8 * a .rings) (a .k) o m) (opponent-is n) (mover-is n),
-      c .lower-start .ensures ∙ ap₂ (λ (m o : ℕ). lowerStart (8 * a .rings) (a .k) m o) (mover-is n) (opponent-is n),
+      c .start .ensures .0 ∙ ap₂ (λ (o m : ℕ). start (8 * a .rings) (a .k) o m) (opponent-is n) (mover-is n),
+      c .before .before .table-of .ensures .lower-start-is ∙ ap₂ (λ (m o : ℕ). lowerStart (8 * a .rings) (a .k) m o) (mover-is n) (opponent-is n),
     )
 
 pub starts-of-spec : {M : Type 1} → statement M
@@ -64,8 +64,8 @@ starts-of-spec =
     cast-m
     count-requires-2
     cast-o
+    mul-table-of
+    table-of-requires
     mul-start
     start-requires
-    mul-lower-start
-    lower-start-requires
     returns)

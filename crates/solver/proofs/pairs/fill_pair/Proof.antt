@@ -18,7 +18,8 @@ returns : tie.Need-returns
 returns c =
     let s = c .before .before .before .before .before .before .before .before .before .before .before in
     let b = s .args .second .own in
-    c .before .before .fill-table2 .ensures ∙ ap (filledPart (b .start) (b .end) (s .args .v)) (c .before .before .before .before .before .before .before .fill-table .ensures)
+    c .before .before .fill-table2 .ensures ∙ ap (filledPart (b .start) (b .end) (s .args .v))
+    (c .before .before .before .before .before .before .before .fill-table .ensures)
 
 pub fill-pair-spec : {M : Type 1} → statement M
 fill-pair-spec = tie.close (tie.spec fill-table-requires fill-table-requires-2 same-length returns)

@@ -33,7 +33,8 @@ returns c =
     let e = c .before .before in
     let f = e .before in
     c .least3 .ensures ∙ ap₂ min (e .least .ensures) (c .before .least2 .ensures)
-    ∙ least-of (s .args .first) (s .args .second) (s .args .low) (s .args .tablebase .now) (f .before .before .before .least-depth .result) (f .before .before .least-depth2 .result)
+    ∙ least-of (s .args .first) (s .args .second) (s .args .low) (s .args .tablebase .now) (f .before .before .before .least-depth .result)
+    (f .before .before .least-depth2 .result)
     (f .before .least-depth3 .result) (f .least-depth4 .result) (f .before .before .before .least-depth .ensures) (f .before .before .least-depth2 .ensures)
     (f .before .least-depth3 .ensures) (f .least-depth4 .ensures)
 

@@ -4,7 +4,8 @@ use Prim.Native.Nat.{ℕ, _*_}
 use lib.ListN.{length}
 use Rattle.sizes.specs.Size.{size}
 use Rattle.sweeping.specs.Levels.{Fits}
-use Rattle.solver.proofs.PairSteps.{swept-length, pair-once, pair-twice}
+use Rattle.sweeping.proofs.AtRank.{swept-length}
+use Rattle.solver.proofs.PairSteps.{pair-once, pair-twice}
 use borrow.Author.Needs.{needs}
 use Rattle.solver.proofs.pairs.sweep_pair.Statement.{statement}
 use Rattle.solver.proofs.pairs.sweep_pair.Tie as tie
@@ -35,7 +36,9 @@ returns c =
     let s = c .before .before .before .before .before .before .before .before .before .before .before .before .before in
     let a = s .args in
     c .before .before .sweep-table2 .ensures
-    ∙ pair-twice (a .rings) (a .first) (a .second) (a .level) (a .tablebase .now) (c .before .before .before .before .if1 .taken) (c .before .before .before .before .before .before .before .before .sweep-table .last .0) (c .before .before .before .before .before .before .before .before .sweep-table .ensures)
+    ∙ pair-twice (a .rings) (a .first) (a .second) (a .level) (a .tablebase .now) (c .before .before .before .before .if1 .taken)
+    (c .before .before .before .before .before .before .before .before .sweep-table .last .0)
+    (c .before .before .before .before .before .before .before .before .sweep-table .ensures)
 
 same-length-2 : tie.Need-same-length-2
 same-length-2 c = search needs

@@ -70,7 +70,8 @@ voided c =
     )
 
 same-length : tie.Need-same-length Inv-loop μ-loop
-same-length c = voided c .0 ∙ c .before .before .before .before .before .before .before .solve-row .ensures .0 ∙ c .before .before .before .before .before .before .before .before .before .before .loop .inv .2
+same-length c = voided c .0 ∙ c .before .before .before .before .before .before .before .solve-row .ensures .0
+    ∙ c .before .before .before .before .before .before .before .before .before .before .loop .inv .2
 
 returns : tie.Need-returns Inv-loop μ-loop
 returns c =
@@ -78,11 +79,17 @@ returns c =
     let s = x .before .before in
     let after = c .before .before .fill-table .last .0 in
     deep-void (s .args .rings) (s .args .k) (s .args .limit) (s .args .tablebase .now) after (s .pre .1 .1 .1 .3) (same-length c)
-    (subst (PairsFilled (s .args .rings) (s .args .k) (s .args .limit) (x .loop .m + 1) 3 (c .before .before .before .before .before .before .before .solve-row .last .0)) (c .before .before .before .before .if1 .taken) (c .before .before .before .before .before .before .before .solve-row .ensures .1))
+    (subst (PairsFilled (s .args .rings) (s .args .k) (s .args .limit) (x .loop .m + 1) 3
+    (c .before .before .before .before .before .before .before .solve-row .last .0)) (c .before .before .before .before .if1 .taken)
+    (c .before .before .before .before .before .before .before .solve-row .ensures .1))
     (λ j l. voided c .1 j l)
 
 add-m : tie.Need-add-m Inv-loop μ-loop
-add-m c = omega (arith, c .before .before .before .before .before .loop-test .taken, c .before .before .before .before .before .before .before .before .pre .1 .1 .1 .2)
+add-m c = omega (
+  arith,
+  c .before .before .before .before .before .loop-test .taken,
+  c .before .before .before .before .before .before .before .before .pre .1 .1 .1 .2,
+)
 
 loop-less : tie.Need-loop-less Inv-loop μ-loop
 loop-less c = omega (arith, c .before .before .before .before .before .loop-test .taken)

@@ -35,7 +35,8 @@ solve-tables-requires c κs =
         (
           s .pre .1 .1 .0,
           (
-            by-counts (λ x y. Setting (length (a .tablebase .now)) (a .rings) (a .k) x y (c .before .before .table-of .result) (c .before .table-of2 .result)) (t .mover-is) (t .opponent-is)
+            by-counts (λ x y. Setting (length (a .tablebase .now)) (a .rings) (a .k) x y (c .before .before .table-of .result)
+                (c .before .table-of2 .result)) (t .mover-is) (t .opponent-is)
                 record { pair = s .pre .1 .1 .1 .0 .0; room = s .pre .1 .1 .1 .0 .2; first = t; second = c .before .table-of2 .ensures },
             (by-counts (λ x y. LowerValid (a .rings) (a .k) x y (a .tablebase .now)) (t .mover-is) (t .opponent-is) (s .pre .1 .1 .1 .1 .0), s .pre .1 .1 .1 .1 .1),
           ),
@@ -51,7 +52,8 @@ returns c =
     let s = c .before .before .before .before .before .before .before in
     let a = s .args in
     let t = c .before .before .before .before .before .table-of .ensures in
-    by-counts (λ x y. PairFill (a .rings) (a .k) x y (a .limit) (a .tablebase .now) (c .before .before .solve-tables .last .0) (c .before .before .solve-tables .result))
+    by-counts (λ x y. PairFill (a .rings) (a .k) x y (a .limit) (a .tablebase .now) (c .before .before .solve-tables .last .0)
+    (c .before .before .solve-tables .result))
     (sym (t .mover-is)) (sym (t .opponent-is)) (c .before .before .solve-tables .ensures)
 
 pub solve-pair-spec : {M : Type 1} → statement M

@@ -18,10 +18,14 @@ Inv-loop tablebase₀ binomials near mills rings k m limit o₀ tablebase o =
 abbrev μ-loop : tie.MeasureT-loop
 μ-loop tablebase₀ binomials near mills rings k m limit o₀ tablebase o = m + 1 - o
 
+-- the entry of the function, seen from the loop
+abbrev entered : tie.At-loop Inv-loop μ-loop → tie.Start Inv-loop μ-loop
+entered x = x .before .before
+
 -- the next pair
-pair-in : (x : tie.At-loop Inv-loop μ-loop) → x .loop .o ≤ x .before .before .args .m → Pair (x .before .before .args .rings) (x .before .before .args .k) (x .before .before .args .m) (x .loop .o)
+pair-in : (x : tie.At-loop Inv-loop μ-loop) → x .loop .o ≤ entered x .args .m → Pair (entered x .args .rings) (entered x .args .k) (entered x .args .m) (x .loop .o)
 pair-in x h =
-    let p = x .before .before .pre .1 .1 .1 .0 .0 in
+    let p = entered x .pre .1 .1 .1 .0 .0 in
     record {
       small = p .small;
       mover-low = p .mover-low;
@@ -36,7 +40,7 @@ loop-holds c = let s = c .before in (omega arith, omega (arith, s .pre .1 .1 .1 
 solve-pair-requires : tie.Need-solve-pair-requires Inv-loop μ-loop
 solve-pair-requires c κs =
     let x = c .before .before in
-    let s = x .before .before in
+    let s = entered x in
     let p = pair-in x (c .before .loop-test .taken) in (
       s .pre .0,
       (
@@ -47,7 +51,8 @@ solve-pair-requires c κs =
             (p, s .pre .1 .1 .1 .0 .1, x .loop .inv .2 ∙ s .pre .1 .1 .1 .0 .2),
             (
               lower-valid (s .args .rings) (s .args .k) (s .args .m) (x .loop .o) (x .loop .tablebase)
-                  (done-lower (s .args .rings) (s .args .k) (s .args .m) (x .loop .o) p (c .before .loop-test .taken) (s .args .limit) (x .loop .tablebase) (x .loop .tablebase)
+                  (done-lower (s .args .rings) (s .args .k) (s .args .m) (x .loop .o) p (c .before .loop-test .taken) (s .args .limit) (x .loop .tablebase)
+                  (x .loop .tablebase)
                   (x .loop .inv .3)),
               s .pre .1 .1 .1 .1 .1,
             ),
@@ -59,21 +64,29 @@ solve-pair-requires c κs =
 same-length : tie.Need-same-length Inv-loop μ-loop
 same-length c =
     let x = c .before .before .before .before .before .before in
-    let s = x .before .before in
-    (subst (PairFill (s .args .rings) (s .args .k) (s .args .m) (x .loop .o) (s .args .limit) (x .loop .tablebase) (c .before .before .before .solve-pair .last .0)) (c .if1 .taken) (c .before .before .before .solve-pair .ensures)) .kept .same-length ∙ x .loop .inv .2
+    let s = entered x in
+    (subst (PairFill (s .args .rings) (s .args .k) (s .args .m) (x .loop .o) (s .args .limit) (x .loop .tablebase)
+    (c .before .before .before .solve-pair .last .0)) (c .if1 .taken) (c .before .before .before .solve-pair .ensures)) .kept .same-length ∙ x .loop .inv .2
 
 returns : tie.Need-returns Inv-loop μ-loop
 returns c =
     let x = c .before .before .before .before .before .before in
-    let s = x .before .before in (
+    let s = entered x in (
       same-length c,
-      deep-whole (s .args .rings) (s .args .k) (s .args .m) (x .loop .o) (pair-in x (c .before .before .before .before .before .loop-test .taken)) (c .before .before .before .before .before .loop-test .taken) (s .args .limit)
+      deep-whole (s .args .rings) (s .args .k) (s .args .m) (x .loop .o) (pair-in x (c .before .before .before .before .before .loop-test .taken))
+          (c .before .before .before .before .before .loop-test .taken) (s .args .limit)
           (x .loop .tablebase) (c .before .before .before .solve-pair .last .0) (x .loop .inv .3)
-          (subst (PairFill (s .args .rings) (s .args .k) (s .args .m) (x .loop .o) (s .args .limit) (x .loop .tablebase) (c .before .before .before .solve-pair .last .0)) (c .if1 .taken) (c .before .before .before .solve-pair .ensures)),
+          (subst (PairFill (s .args .rings) (s .args .k) (s .args .m) (x .loop .o) (s .args .limit) (x .loop .tablebase)
+          (c .before .before .before .solve-pair .last .0)) (c .if1 .taken) (c .before .before .before .solve-pair .ensures)),
     )
 
 add-o : tie.Need-add-o Inv-loop μ-loop
-add-o c = omega (arith, c .before .before .before .before .before .loop-test .taken, c .before .before .before .before .before .before .before .before .pre .1 .1 .1 .0 .0 .mover-high, c .before .before .before .before .before .before .before .before .pre .1 .1 .1 .0 .1)
+add-o c = omega (
+  arith,
+  c .before .before .before .before .before .loop-test .taken,
+  c .before .before .before .before .before .before .before .before .pre .1 .1 .1 .0 .0 .mover-high,
+  c .before .before .before .before .before .before .before .before .pre .1 .1 .1 .0 .1,
+)
 
 loop-less : tie.Need-loop-less Inv-loop μ-loop
 loop-less c = omega (arith, c .before .before .before .before .before .loop-test .taken)
@@ -81,12 +94,14 @@ loop-less c = omega (arith, c .before .before .before .before .before .loop-test
 loop-again : tie.Need-loop-again Inv-loop μ-loop
 loop-again c =
     let x = c .before .before .before .before .before .before in
-    let s = x .before .before in
-    let f = (subst (PairFill (s .args .rings) (s .args .k) (s .args .m) (x .loop .o) (s .args .limit) (x .loop .tablebase) (c .before .before .before .solve-pair .last .0)) (c .if1 .left) (c .before .before .before .solve-pair .ensures)) in (
+    let s = entered x in
+    let f = (subst (PairFill (s .args .rings) (s .args .k) (s .args .m) (x .loop .o) (s .args .limit) (x .loop .tablebase)
+    (c .before .before .before .solve-pair .last .0)) (c .if1 .left) (c .before .before .before .solve-pair .ensures)) in (
       omega (arith, x .loop .inv .0),
       omega (arith, c .before .before .before .before .before .loop-test .taken),
       f .kept .same-length ∙ x .loop .inv .2,
-      done-pair (s .args .rings) (s .args .k) (s .args .m) (x .loop .o) (pair-in x (c .before .before .before .before .before .loop-test .taken)) (c .before .before .before .before .before .loop-test .taken) (s .args .limit)
+      done-pair (s .args .rings) (s .args .k) (s .args .m) (x .loop .o) (pair-in x (c .before .before .before .before .before .loop-test .taken))
+          (c .before .before .before .before .before .loop-test .taken) (s .args .limit)
           (x .loop .tablebase) (c .before .before .before .solve-pair .last .0) (x .loop .inv .3) f,
     )
 
@@ -96,7 +111,7 @@ same-length-2 c = c .before .loop .inv .2
 returns-2 : tie.Need-returns-2 Inv-loop μ-loop
 returns-2 c =
     let x = c .before in
-    let s = x .before .before in
+    let s = entered x in
     let e : x .loop .o ≡ s .args .m + 1 = omega (arith, c .loop-test .left, x .loop .inv .1) in (
       same-length-2 c,
       done-row (s .args .rings) (s .args .k) (s .args .limit) (x .loop .tablebase) (s .args .m)

@@ -7,12 +7,16 @@ use Rattle.sweeping.proofs.levels.open_decided.Statement.{statement}
 use Rattle.sweeping.proofs.levels.open_decided.Tie as tie
 use Rattle.sweeping.proofs.levels.open_decided.Reads as reads
 
+-- the entry of the function, seen from where the position is known
+abbrev entered : tie.After-unrank → tie.Start
+entered c = c .before .before .before .before
+
 -- the position that is judged
 found : (c : tie.After-unrank)
-    → AtRank (length (c .before .before .before .before .args .tablebase .now)) (c .before .before .before .before .args .rings) (c .before .before .before .before .args .table) (c .before .before .before .before .args .same)
-    (c .before .before .before .before .args .r) (c .unrank .result)
+    → AtRank (length (entered c .args .tablebase .now)) (entered c .args .rings) (entered c .args .table) (entered c .args .same)
+    (entered c .args .r) (c .unrank .result)
 found c =
-    let s = c .before .before .before .before in
+    let s = entered c in
     at-rank (length (s .args .tablebase .now)) (s .args .rings) (s .args .table) (s .args .same) (s .args .r) (c .unrank .result)
     (s .pre .1 .1 .1 .0) (s .pre .1 .1 .1 .1) (c .unrank .ensures)
 

@@ -7,12 +7,16 @@ use Rattle.sweeping.proofs.levels.sweep_place.Statement.{statement}
 use Rattle.sweeping.proofs.levels.sweep_place.Tie as tie
 use Rattle.sweeping.proofs.levels.sweep_place.Reads as reads
 
+-- the entry of the function, seen from where the position is known
+abbrev entered : tie.After-unrank → tie.Start
+entered c = c .before .before .before .before .before
+
 -- the position that is judged
 found : (c : tie.After-unrank)
-    → AtRank (length (c .before .before .before .before .before .args .tablebase .now)) (c .before .before .before .before .before .args .rings) (c .before .before .before .before .before .args .table)
-    (c .before .before .before .before .before .args .same) (c .before .before .before .before .before .args .r) (c .unrank .result)
+    → AtRank (length (entered c .args .tablebase .now)) (entered c .args .rings) (entered c .args .table)
+    (entered c .args .same) (entered c .args .r) (c .unrank .result)
 found c =
-    let s = c .before .before .before .before .before in
+    let s = entered c in
     at-rank (length (s .args .tablebase .now)) (s .args .rings) (s .args .table) (s .args .same) (s .args .r) (c .unrank .result)
     (s .pre .1 .1 .1 .0) (s .pre .1 .1 .1 .1) (c .unrank .ensures)
 
@@ -42,8 +46,10 @@ returns c =
     let t = c .before .before .before .before .before in
     let u = t .before .before .before .before in
     let s = u .before .before .before .before .before in
-    c .before .before .write-entry .ensures ∙ place-hit (s .args .rings) (s .args .table) (s .args .same) (s .args .r) (s .args .tablebase .now) (s .args .level) (sym (u .before .before .is-open .ensures) ∙ u .before .if1 .taken)
-    (sym (hit-at (s .args .rings) (s .args .table) (s .args .same) (s .args .r) (s .args .tablebase .now) (length (s .args .tablebase .now)) (u .unrank .result) (found u) (s .args .level)) ∙ sym (t .before .hits .ensures) ∙ t .if2 .taken)
+    c .before .before .write-entry .ensures ∙ place-hit (s .args .rings) (s .args .table) (s .args .same) (s .args .r) (s .args .tablebase .now)
+    (s .args .level) (sym (u .before .before .is-open .ensures) ∙ u .before .if1 .taken)
+    (sym (hit-at (s .args .rings) (s .args .table) (s .args .same) (s .args .r) (s .args .tablebase .now) (length (s .args .tablebase .now))
+    (u .unrank .result) (found u) (s .args .level)) ∙ sym (t .before .hits .ensures) ∙ t .if2 .taken)
 
 same-length-2 : tie.Need-same-length-2
 same-length-2 c = search needs
@@ -53,7 +59,8 @@ returns-2 c =
     let u = c .before .before .before .before in
     let s = u .before .before .before .before .before in
     place-missed (s .args .rings) (s .args .table) (s .args .same) (s .args .r) (s .args .tablebase .now) (s .args .level)
-    (sym (hit-at (s .args .rings) (s .args .table) (s .args .same) (s .args .r) (s .args .tablebase .now) (length (s .args .tablebase .now)) (u .unrank .result) (found u) (s .args .level)) ∙ sym (c .before .hits .ensures) ∙ c .if2 .left)
+    (sym (hit-at (s .args .rings) (s .args .table) (s .args .same) (s .args .r) (s .args .tablebase .now) (length (s .args .tablebase .now))
+    (u .unrank .result) (found u) (s .args .level)) ∙ sym (c .before .hits .ensures) ∙ c .if2 .left)
 
 same-length-3 : tie.Need-same-length-3
 same-length-3 c = search needs
@@ -61,7 +68,8 @@ same-length-3 c = search needs
 returns-3 : tie.Need-returns-3
 returns-3 c =
     let s = c .before .before .before .before in
-    place-closed (s .args .rings) (s .args .table) (s .args .same) (s .args .r) (s .args .tablebase .now) (s .args .level) (sym (c .before .is-open .ensures) ∙ c .if1 .left)
+    place-closed (s .args .rings) (s .args .table) (s .args .same) (s .args .r) (s .args .tablebase .now) (s .args .level)
+    (sym (c .before .is-open .ensures) ∙ c .if1 .left)
 
 pub sweep-place-spec : {M : Type 1} → statement M
 sweep-place-spec =

@@ -22,8 +22,13 @@ sub-size c = omega (arith, c .before .before .before .pre .1 .1 .1 .0 .end-is)
 
 loop-holds : tie.Need-loop-holds Inv-loop μ-loop
 loop-holds c =
-    let s = c .before .before .before in
-    (omega (arith, s .pre .1 .1 .1 .0 .end-is), omega arith, refl, swept-none (s .args .rings) (s .args .table) (s .args .same) (s .args .level) (s .args .tablebase .now))
+    let s = c .before .before .before in (
+      omega (arith, s .pre .1 .1 .1 .0 .end-is),
+      omega arith,
+      refl,
+      swept-none (s .args .rings) (s .args .table) (s .args .same) (s .args .level)
+          (s .args .tablebase .now),
+    )
 
 sweep-place-requires : tie.Need-sweep-place-requires Inv-loop μ-loop
 sweep-place-requires c κs =
