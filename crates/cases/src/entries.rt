@@ -1,4 +1,5 @@
 // Entries looked up and best moves in a tablebase of one ring.
+use super::fills::VOID_ENTRY;
 use super::fills::make_up;
 use super::fills::with_digit;
 use super::printing::about;
@@ -152,7 +153,7 @@ fn tables(word: &[u8], tablebase: &[u16]) {
 // One void, where document 01's first board stands: its entry and its predecessors' best moves are refused, its own best move is not.
 fn void_entry() {
     let mut tablebase = [7u16; 1302];
-    tablebase[117] = 65534;
+    tablebase[117] = VOID_ENTRY;
     lookup(1, &[1, 1, 0, 2, 2, 1, 2, 0], 5, &tablebase);
     lookup(1, &[2, 0, 2, 0, 2, 1, 1, 1], 5, &tablebase);
     lookup(1, &[1, 1, 0, 2, 2, 1, 2, 0], 3, &tablebase);

@@ -9,7 +9,7 @@ use morris::Solved;
 
 const DRAW_ENTRY: u16 = 65535;
 
-const VOID_ENTRY: u16 = 65534;
+pub const VOID_ENTRY: u16 = 65534;
 
 // The sums of entries: how many are won, lost, drawn and void, their depths together, and the entries as the digits of a number modulo a prime.
 struct Sums {
