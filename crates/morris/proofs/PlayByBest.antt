@@ -1,4 +1,4 @@
--- Play by best moves: "On a shelf filled whole by one accepted call and unchanged since, from a won entry n, a mover who always takes best moves wins
+-- Play by best moves (document 01): "On a shelf filled whole by one accepted call and unchanged since, from a won entry n, a mover who always takes best moves wins
 -- the game in at most n plies." The calls `best_move` and `make_move` answer and make that move. Assumes nothing.
 use mathlib.Core.Path.{_≡_, sym, ap, ap₂, subst, _∙_}
 use mathlib.Core.Bool.{Bool, false, cond}

@@ -3,7 +3,6 @@
 // Every call answers on every input: its result, or the number of the first refusal of document 01's table that it meets, and then each lent
 // buffer is as it was. `docs/PROMISES.md` says which sentence of the papers each contract states.
 mod reader;
-mod successors;
 
 ghost use mathlib.Core.Path.{_≡_};
 ghost use Rattle.morris.specs.RankCall.{ranked, rankCall};
@@ -185,7 +184,7 @@ pub fn best_move(rings: u8, board: &[u8], k: u8, tablebase: &[u16]) -> Chosen
     if plies::count_moves(rings as usize, &near, &mills, position) == 0 {
         return Chosen::Refused(refusals::BLOCKED);
     }
-    let starts = successors::starts_of(&binomials, rings as usize, k as usize, position);
+    let starts = sweeping::starts_of(&binomials, rings as usize, k as usize, position);
     if probing::void_after(
         tablebase,
         &binomials,

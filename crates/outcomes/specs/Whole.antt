@@ -1,4 +1,4 @@
--- The whole game: "On a whole shelf, outcomes come from the plies alone, never from entries." Assumes nothing.
+-- The whole game (document 01): "On a whole shelf, outcomes come from the plies alone, never from entries." Assumes nothing.
 use mathlib.Core.Bool.{true, false}
 use mathlib.Core.List.{List}
 use Prim.Native.Nat.{ℕ}

@@ -1,9 +1,12 @@
 // One level of the solver over one table of a tablebase, in place; and where the tables lie.
 mod levels;
+mod successors;
 mod tables;
 
 pub use levels::some_decided;
 pub use levels::sweep_table;
+pub use successors::Starts;
+pub use successors::starts_of;
 pub use tables::Part;
 pub use tables::Table;
 pub use tables::table_of;

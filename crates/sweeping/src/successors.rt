@@ -5,7 +5,8 @@ ghost use Rattle.board.specs.Board.{count, boardOf};
 ghost use Rattle.sizes.specs.Binomial.{BinomialTable};
 ghost use Rattle.layout.specs.Layout.{start};
 ghost use Rattle.plies.specs.Positions.{Placed};
 ghost use Rattle.sweeping.specs.Tables.{lowerStart};
+use super::tables;
 
 // Where they start: the table of the successors without a removal, and that of those with one.
 pub struct Starts {
@@ -29,7 +30,7 @@ pub fn starts_of(
 {
     let m = sets::count(position.mover) as usize;
     let o = sets::count(position.opponent) as usize;
-    let table = sweeping::table_of(binomials, 8 * rings, k, m, o);
+    let table = tables::table_of(binomials, 8 * rings, k, m, o);
     let lower = table.lower;
     Starts {
         same: layout::start(binomials, 8 * rings, k, o, m),

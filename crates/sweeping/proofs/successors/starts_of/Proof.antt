@@ -1,14 +1,14 @@
--- `morris::successors::starts_of` meets its contract: the stones counted are the board's. Assumes nothing.
+-- `sweeping::successors::starts_of` meets its contract: the stones counted are the board's. Assumes nothing.
 use mathlib.Core.Path.{_≡_, ap₂, _∙_}
 use Prim.Native.Nat.{ℕ, _*_}
 use native.Mathlib.Omega.{arith}
 use Rattle.board.specs.Board.{count, boardOf}
 use Rattle.board.proofs.OneToOne.{mover-count, opponent-count}
 use Rattle.layout.specs.Layout.{start}
 use Rattle.sweeping.specs.Tables.{lowerStart}
 use borrow.Author.Needs.{needs}
-use Rattle.morris.proofs.successors.starts_of.Statement.{statement}
-use Rattle.morris.proofs.successors.starts_of.Tie as tie
+use Rattle.sweeping.proofs.successors.starts_of.Statement.{statement}
+use Rattle.sweeping.proofs.successors.starts_of.Tie as tie
 
 mover-is : (c : tie.After-count2)
     → c .before .count .result ≡ count 1 (boardOf (8 * c .before .before .args .rings) (c .before .before .args .position))
