@@ -4,6 +4,7 @@
 // buffer is as it was. `docs/PROMISES.md` says which sentence of the papers each contract states.
 mod reader;
 
+pub use reader::number_of;
 ghost use mathlib.Core.Path.{_≡_};
 ghost use Rattle.morris.specs.RankCall.{ranked, rankCall};
 ghost use Rattle.morris.specs.UnrankCall.{unranked, unrankCall, unrankTarget};

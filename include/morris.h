@@ -1,0 +1,86 @@
+/* Endgame tablebases of Nine Men's Morris: the calls for C.
+ *
+ * Link with libmorris_c.a, which `rt staticlib morris_c` writes. Every call answers on every value of its arguments: it returns 0 and its result,
+ * or the number of the first refusal that the arguments meet, and then every value behind a pointer is 0 and every lent buffer is as it was
+ * (after 13 the entries to be filled are void).
+ *
+ * What the caller answers for: each pointer is not null and points to as many elements as the length beside it says (one, where there is no
+ * length), and no two of them overlap. Nothing is kept after a call, and nothing is allocated; calls on different buffers may run at the same time.
+ *
+ * A board is 8 * rings bytes, point 0 first: 0 vacant, 1 the side to move (the mover), 2 the other side (the opponent). Point 8 * ring + place;
+ * ring 0 is the outermost; places 0 to 7 clockwise, even places corners. A move number is 1024 * from + 32 * to + removed, with 31 for no removal.
+ * A point set is a number whose binary digit p says whether point p is in it.
+ *
+ * Refusals:
+ *    1  rings not 1, 2 or 3                        8  not a listed move
+ *    2  length of the board (or frame) wrong       9  best move sought, mover blocked
+ *    3  a value above 2                           10  limit above 65533
+ *    4  a count outside 3 to 9, or a sum above    11  k outside 3 to 9, or a count above k
+ *       the points                                12  void in the entry looked up, in a successor of a position
+ *    5  rank not below the size of the table          whose best move is sought, or in the lower tables of a pair
+ *    6  target board or tablebase length wrong    13  a forced end beyond the limit
+ *    7  move list or frame target too short       14  a frame empty, over 64 characters, of odd length, or with a
+ *                                                     character outside 0-9 a-f
+ */
+#ifndef MORRIS_H
+#define MORRIS_H
+
+#include <stddef.h>
+#include <stdint.h>
+
+/* Entries: these two, else plies to the end; odd is won for the mover, even is lost. */
+#define MORRIS_DRAW 65535
+#define MORRIS_VOID 65534
+
+/* No position has more moves. */
+#define MORRIS_MOVES_MAX 324
+
+/* A frame of three rings has this many characters; those of one and two rings have 6 and 10. */
+#define MORRIS_FRAME_MAX 14
+
+#ifdef __cplusplus
+extern "C" {
+#endif
+
+/* The rank of a board among those of its counts. Refusals 1, 2, 3, 4. */
+uint8_t morris_rank(uint8_t rings, const uint8_t *board, size_t board_len, uint64_t *rank);
+
+/* Writes the board of a rank among those of the given counts over the target, of 8 * rings bytes. Refusals 1, 4, 6, 5. */
+uint8_t morris_unrank(uint8_t rings, uint8_t mover, uint8_t opponent, uint64_t rank, uint8_t *target, size_t target_len);
+
+/* Lists a board's moves by rising number at the start of the list, and says how many; the rest of the list keeps its contents.
+ * Refusals 1, 2, 3, 4, 7. */
+uint8_t morris_moves(uint8_t rings, const uint8_t *board, size_t board_len, uint16_t *moves, size_t moves_len, size_t *count);
+
+/* Writes the board after a listed move over the target, of 8 * rings bytes; the sides have changed names. Refusals 1, 2, 3, 4, 6, 8. */
+uint8_t morris_make_move(uint8_t rings, const uint8_t *board, size_t board_len, uint16_t number, uint8_t *target, size_t target_len);
+
+/* The rank of the representative of a board's class under turns, mirrors and reversed rings. Refusals 1, 2, 3, 4. */
+uint8_t morris_representative(uint8_t rings, const uint8_t *board, size_t board_len, uint64_t *rank);
+
+/* Fills the tablebase of largest count k: at each place the plies to the end, or draw. Refusals 1, 11, 6, 10, 13. */
+uint8_t morris_fill(uint8_t rings, uint8_t k, uint32_t limit, uint16_t *tablebase, size_t tablebase_len);
+
+/* Fills the tables (mover, opponent) and (opponent, mover) over the entries of their lower tables. Refusals 1, 4, 11, 6, 10, 12, 13. */
+uint8_t morris_fill_pair(uint8_t rings, uint8_t mover, uint8_t opponent, uint8_t k, uint32_t limit, uint16_t *tablebase, size_t tablebase_len);
+
+/* The entry of a board in a tablebase of largest count k. Refusals 1, 2, 3, 4, 11, 6, 12. */
+uint8_t morris_lookup(uint8_t rings, const uint8_t *board, size_t board_len, uint8_t k, const uint16_t *tablebase, size_t tablebase_len, uint16_t *entry);
+
+/* The best move of a board, and the entry of the successor that it leads to: the first listed among quickest win, else a draw, else longest
+ * loss. Refusals 1, 2, 3, 4, 11, 6, 9, 12. */
+uint8_t morris_best_move(uint8_t rings, const uint8_t *board, size_t board_len, uint8_t k, const uint16_t *tablebase, size_t tablebase_len, uint16_t *number,
+                         uint16_t *entry);
+
+/* Reads a frame: the rings, the mover's points and the opponent's points, as point sets. Refusals 14, 1, 2, 3, 4. */
+uint8_t morris_read_frame(const uint8_t *frame, size_t frame_len, uint8_t *rings, uint32_t *mover, uint32_t *opponent);
+
+/* Writes rings and a board as a frame over the start of the target, and says how many characters; there is no zero after them.
+ * Refusals 1, 2, 3, 4, 7. */
+uint8_t morris_write_frame(uint8_t rings, const uint8_t *board, size_t board_len, uint8_t *frame, size_t frame_len, size_t *written);
+
+#ifdef __cplusplus
+}
+#endif
+
+#endif
