@@ -60,14 +60,6 @@ binomial-factorial (suc k) (suc j) =
     rw (p, pascal (suc (k + j)) k)
     (step (binomial (suc (k + j)) k) (binomial (suc (k + j)) (suc k)) k j (factorial k) (factorial j) x y)
 
-pos : (n : ℕ) → (n ≡ 0 → ⊥) → 0 < n
-pos zero h = absurd (h refl)
-pos (suc n) h = omega arith
-
--- the entries of the rows of 25, each from those before it
-pub entry-one : (i : ℕ) → i % 25 ≡ 0 → 1 ≡ binomial (i / 25) (i % 25)
-entry-one i e = rw e (sym (binomial-zero (i / 25)))
-
 rule : (n k : ℕ) → 0 < n → 0 < k → binomial n k ≡ binomial (n - 1) (k - 1) + binomial (n - 1) k
 rule zero k p q = absurd (omega arith)
 rule (suc n) zero p q = absurd (omega arith)
@@ -76,18 +68,22 @@ rule (suc n) (suc k) p q =
     let b : suc k - 1 ≡ k = omega arith in
     rw (a, b) (pascal n k)
 
-pub entry-none : (i : ℕ) → (i % 25 ≡ 0 → ⊥) → i < 25 → 0 ≡ binomial (i / 25) (i % 25)
-entry-none i n h =
-    let e : i / 25 ≡ 0 = omega arith in
-    rw e (sym (binomial-over 0 (i % 25) (pos (i % 25) n)))
-
-pub entry-sum : (t : List ℕ) (i : ℕ) → ((j : ℕ) → j < i → getD t j 0 ≡ binomial (j / 25) (j % 25)) → (i % 25 ≡ 0 → ⊥) → 25 ≤ i
+-- entry i of the rows of 25 from those before it, in column 0 and in the others
+pub entry-sum : (t : List ℕ) (i : ℕ) → ((j : ℕ) → j < i → getD t j 0 ≡ binomial (j / 25) (j % 25)) → 26 ≤ i → i < 625
     → getD t (i - 26) 0 + getD t (i - 25) 0 ≡ binomial (i / 25) (i % 25)
-entry-sum t i known n h =
-    let k = pos (i % 25) n in
-    let a : (i - 26) / 25 ≡ i / 25 - 1 = omega arith in
-    let b : (i - 26) % 25 ≡ i % 25 - 1 = omega arith in
-    let c : (i - 25) / 25 ≡ i / 25 - 1 = omega arith in
-    let d : (i - 25) % 25 ≡ i % 25 = omega arith in
-    ap₂ _+_ (known (i - 26) (omega arith) ∙ ap₂ binomial a b) (known (i - 25) (omega arith) ∙ ap₂ binomial c d)
-    ∙ sym (rule (i / 25) (i % 25) (omega arith) k)
+entry-sum t i known h l = go (i % 25) refl
+  where
+    go : (k : ℕ) → i % 25 ≡ k → getD t (i - 26) 0 + getD t (i - 25) 0 ≡ binomial (i / 25) (i % 25)
+    go zero e =
+        let a : (i - 26) % 25 ≡ 24 = omega arith in
+        let b : (i - 25) % 25 ≡ 0 = omega arith in
+        ap₂ _+_ (known (i - 26) (omega arith) ∙ ap (binomial ((i - 26) / 25)) a ∙ binomial-over ((i - 26) / 25) 24 (omega arith))
+        (known (i - 25) (omega arith) ∙ ap (binomial ((i - 25) / 25)) b ∙ binomial-zero ((i - 25) / 25))
+        ∙ sym (ap (binomial (i / 25)) e ∙ binomial-zero (i / 25))
+    go (suc k) e =
+        let a : (i - 26) / 25 ≡ i / 25 - 1 = omega arith in
+        let b : (i - 26) % 25 ≡ i % 25 - 1 = omega arith in
+        let c : (i - 25) / 25 ≡ i / 25 - 1 = omega arith in
+        let d : (i - 25) % 25 ≡ i % 25 = omega arith in
+        ap₂ _+_ (known (i - 26) (omega arith) ∙ ap₂ binomial a b) (known (i - 25) (omega arith) ∙ ap₂ binomial c d)
+        ∙ sym (rule (i / 25) (i % 25) (omega arith) (omega arith))

@@ -5,18 +5,13 @@ ghost use lib.ListN.{getD};
 ghost use Rattle.sizes.specs.Size.{size};
 ghost use Rattle.sizes.specs.Binomial.{binomial, BinomialTable};
 
-// Entry i of the rows of 25, by Pascal's rule from the entries before it.
+// Entry i of the rows of 25, by Pascal's rule from the entries before it. In column 0 the entry before the one above is the last of its row, 0 in
+// every row but the last, so that the rule needs no case.
 fn pascal(binomials: &[u32; 625], i: usize) -> u32
-    requires { ⌜ i < 625 ⌝ }
+    requires { ⌜ (26 ≤ i) × (i < 625) ⌝ }
     requires { ⌜ ((j : ℕ) → j < i → getD (now binomials) j 0 ≡ binomial (j / 25) (j % 25)) ⌝ }
     ensures { λ r. ⌜ r ≡ binomial (i / 25) (i % 25) ⌝ }
 {
-    if i % 25 == 0 {
-        return 1;
-    }
-    if i < 25 {
-        return 0;
-    }
     binomials[i - 26] + binomials[i - 25]
 }
 
@@ -25,7 +20,9 @@ pub fn binomial_table() -> [u32; 625]
     ensures { λ r. ⌜ BinomialTable r ⌝ }
 {
     let mut binomials = [0u32; 625];
-    let mut i = 0;
+    binomials[0] = 1;
+    binomials[25] = 1;
+    let mut i = 26;
     while i < 625 {
         let entry = pascal(&binomials, i);
         binomials[i] = entry;
