@@ -1,5 +1,5 @@
 // Runs the library and the plain solver on the same tablebases and positions, compares every result, and prints what each
-// took. With the argument `small` only the two smallest tablebases.
+// took. With the argument `small` it fills only the two smallest tablebases.
 #include "board.hpp"
 #include "morris.h"
 #include "solver.hpp"
@@ -61,7 +61,6 @@ class Run {
     Run(const char *name, Fill fill, int rings, int k, size_t length)
         : length_(length), measured_(map_memory<Measured>(1, MAP_SHARED)), entries_(map_memory<uint16_t>(length, MAP_SHARED)) {
         std::fprintf(stderr, "rings %d, K %d, %s ... ", rings, k, name);
-        std::fflush(stdout);
         pid_t child = fork();
         if (child < 0) fail("no process");
         if (child == 0) {
@@ -119,7 +118,6 @@ size_t compare_fills(int rings, int k) {
     std::printf("| %d | %d | %zu | %.4f | %.4f | %.1f | %.1f | %.1f | %.1f | %.1f | %zu |\n", rings, k, length,
                 library.wall_seconds(), plain.wall_seconds(), library.nanoseconds_an_entry(), plain.nanoseconds_an_entry(),
                 library.nanoseconds_an_entry() / plain.nanoseconds_an_entry(), library.peak_mib(), plain.peak_mib(), differ);
-    std::fflush(stdout);
     return differ;
 }
 
@@ -161,9 +159,10 @@ class Calls {
 
     // Three rows of the table of calls; returns how many results differ.
     size_t compare() {
-        size_t wrong = compare_unrank() + compare_rank() + compare_moves();
-        std::fflush(stdout);
-        return wrong;
+        size_t differ = compare_unrank();
+        differ += compare_rank();
+        differ += compare_moves();
+        return differ;
     }
 
   private:
@@ -226,6 +225,7 @@ class Calls {
 int main(int argc, char **argv) {
     bool small = argc == 2 && std::strcmp(argv[1], "small") == 0;
     if (argc > 1 && !small) fail("the only argument is `small`");
+    std::setvbuf(stdout, nullptr, _IOLBF, 0);
     size_t differ = 0;
     std::printf("| rings | K | entries | library, s | plain, s | library, ns an entry | plain, ns an entry | library / plain "
                 "| library, MiB | plain, MiB | entries that differ |\n|%s\n",
