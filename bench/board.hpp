@@ -1,4 +1,4 @@
-// Boards, moves and ranks for the plain solver: what the library is measured against. Written from document 01 alone; it
+// Boards, moves and ranks for the plain solver: what the library is measured against. Written from document 01; it
 // shares nothing with the library.
 #pragma once
 
