@@ -1,12 +1,17 @@
 // Representatives of classes.
-use super::printing::about;
-use super::printing::add;
-use super::printing::number;
-use super::printing::refused;
-use super::printing::table;
-use super::printing::text;
+use super::boards::three_rings;
 use morris::Represented;
 use morris::Unranked;
+use notation::about;
+use notation::add;
+use notation::board_of;
+use notation::colon;
+use notation::end;
+use notation::least;
+use notation::number;
+use notation::refused;
+use notation::table;
+use notation::text;
 
 fn represented(answer: Represented) {
     match answer {
@@ -15,56 +20,34 @@ fn represented(answer: Represented) {
     }
 }
 
-// The rank of the representative of a board's class.
-fn representative(rings: u8, board: &[u8]) {
+fn representative_of(rings: u8, board: &[u8]) {
     about(b"representative", rings, board);
-    text(b":");
+    colon();
     represented(morris::representative(rings, board));
-    text(b"\n");
+    end();
+}
+
+// The rank of the representative of a board's class.
+fn representative(rings: u8, length: usize, digits: u64) {
+    let board = board_of(digits);
+    let n = least(length, 16);
+    representative_of(rings, &board[0..n]);
 }
 
 // A board, a turn and a mirror of it; others, one with its rings reversed; and each refusal.
 fn boards() {
-    representative(1, &[1, 1, 0, 2, 2, 1, 2, 0]);
-    representative(1, &[0, 2, 2, 1, 2, 0, 1, 1]);
-    representative(1, &[1, 0, 2, 1, 2, 2, 0, 1]);
-    representative(1, &[2, 0, 2, 0, 2, 1, 1, 1]);
-    representative(1, &[0, 0, 1, 1, 1, 2, 2, 2]);
-    representative(2, &[1, 0, 1, 0, 2, 2, 2, 0, 0, 1, 0, 0, 1, 0, 0, 0]);
-    representative(2, &[0, 1, 0, 0, 1, 0, 0, 0, 1, 0, 1, 0, 2, 2, 2, 0]);
-    representative(
-        3,
-        &[
-            0,
-            1,
-            0,
-            2,
-            0,
-            0,
-            0,
-            0,
-            0,
-            1,
-            0,
-            2,
-            0,
-            0,
-            0,
-            0,
-            0,
-            0,
-            1,
-            2,
-            2,
-            0,
-            0,
-            1,
-        ],
-    );
-    representative(0, &[1, 1, 0, 2, 2, 1, 2, 0]);
-    representative(1, &[1, 1, 0, 2, 2, 1, 2]);
-    representative(1, &[1, 1, 0, 2, 2, 1, 2, 4]);
-    representative(1, &[1, 1, 0, 2, 2, 1, 1, 0]);
+    representative(1, 8, 02122011);
+    representative(1, 8, 11021220);
+    representative(1, 8, 10221201);
+    representative(1, 8, 11120202);
+    representative(1, 8, 22211100);
+    representative(2, 16, 0001001002220101);
+    representative(2, 16, 0222010100010010);
+    representative_of(3, &three_rings());
+    representative(0, 8, 02122011);
+    representative(1, 7, 2122011);
+    representative(1, 8, 42122011);
+    representative(1, 8, 01122011);
 }
 
 // 1 where a rank is its own representative's, else 0.
@@ -90,16 +73,18 @@ fn count(rings: u8, mover: u8, opponent: u8, size: u64, board: &mut [u8]) -> u64
 }
 
 // How many classes a table has.
-fn classes(rings: u8, mover: u8, opponent: u8, size: u64, board: &mut [u8]) {
+fn classes(rings: u8, mover: u8, opponent: u8, size: u64) {
     table(b"classes", rings, mover, opponent);
-    text(b":");
-    number(count(rings, mover, opponent, size, board));
-    text(b"\n");
+    colon();
+    let mut board = [0u8; 24];
+    let n = least(8 * rings as usize, 24);
+    number(count(rings, mover, opponent, size, &mut board[0..n]));
+    end();
 }
 
 pub fn run() {
     boards();
-    classes(1, 3, 3, 560, &mut [0; 8]);
-    classes(1, 5, 3, 56, &mut [0; 8]);
-    classes(2, 3, 3, 160160, &mut [0; 16]);
+    classes(1, 3, 3, 560);
+    classes(1, 5, 3, 56);
+    classes(2, 3, 3, 160160);
 }

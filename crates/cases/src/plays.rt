@@ -1,18 +1,24 @@
 // Moves listed and made.
 ghost use Prim.Native.Nat.{_≤_};
-use super::printing::about;
-use super::printing::add;
-use super::printing::number;
-use super::printing::numbers;
-use super::printing::points;
-use super::printing::refused;
-use super::printing::table;
-use super::printing::text;
-use super::printing::wider;
+use super::boards::three_rings;
 use morris::Listed;
 use morris::Made;
 use morris::Ranked;
 use morris::Unranked;
+use notation::about;
+use notation::add;
+use notation::board_of;
+use notation::colon;
+use notation::end;
+use notation::least;
+use notation::number;
+use notation::numbers;
+use notation::points;
+use notation::refused;
+use notation::space;
+use notation::table;
+use notation::text;
+use notation::wider;
 
 fn listed(answer: Listed) {
     match answer {
@@ -28,126 +34,79 @@ fn made(answer: Made) {
     }
 }
 
-// The moves of a board, and what the whole list then holds.
-fn moves(rings: u8, board: &[u8], list: &mut [u16]) {
+fn list_over(rings: u8, board: &[u8], list: &mut [u16]) {
     about(b"moves", rings, board);
-    text(b":");
+    colon();
     listed(morris::moves(rings, board, list));
     text(b" in");
     numbers(list);
-    text(b"\n");
+    end();
 }
 
-// The board after a move, and what the target then holds.
-fn make_move(rings: u8, board: &[u8], move_number: u16, target: &mut [u8]) {
+// The moves of a board of so many points, and what a list of sevens then holds.
+fn moves(rings: u8, length: usize, digits: u64, room: usize) {
+    let board = board_of(digits);
+    let n = least(length, 16);
+    let mut list = [7u16; 12];
+    let m = least(room, 12);
+    list_over(rings, &board[0..n], &mut list[0..m]);
+}
+
+fn make_over(rings: u8, board: &[u8], move_number: u16, target: &mut [u8]) {
     about(b"make move", rings, board);
     number(move_number as u64);
-    text(b":");
+    colon();
     made(morris::make_move(rings, board, move_number, target));
-    text(b" ");
+    space();
     points(target);
-    text(b"\n");
+    end();
+}
+
+// The board after a move, and what a target of sevens then holds.
+fn make_move(rings: u8, length: usize, digits: u64, move_number: u16, room: usize) {
+    let board = board_of(digits);
+    let n = least(length, 16);
+    let mut target = [7u8; 24];
+    let m = least(room, 24);
+    make_over(rings, &board[0..n], move_number, &mut target[0..m]);
 }
 
 // Worked boards: document 01's own, a shield, no shield, the vacated point, four stones on one ring, two rings, three rings.
 fn lists() {
-    moves(1, &[1, 1, 0, 2, 2, 1, 2, 0], &mut [7; 10]);
-    moves(1, &[2, 2, 2, 1, 1, 0, 1, 2], &mut [7; 4]);
-    moves(1, &[2, 2, 2, 1, 1, 0, 1, 0], &mut [7; 8]);
-    moves(1, &[1, 1, 0, 1, 0, 2, 2, 2], &mut [7; 9]);
-    moves(1, &[1, 1, 2, 1, 1, 2, 0, 2], &mut [7; 2]);
-    moves(
-        2,
-        &[1, 0, 1, 0, 2, 2, 2, 0, 0, 1, 0, 0, 1, 0, 0, 0],
-        &mut [7; 12],
-    );
-    moves(
-        3,
-        &[
-            0,
-            1,
-            0,
-            2,
-            0,
-            0,
-            0,
-            0,
-            0,
-            1,
-            0,
-            2,
-            0,
-            0,
-            0,
-            0,
-            0,
-            0,
-            1,
-            2,
-            2,
-            0,
-            0,
-            1,
-        ],
-        &mut [7; 9],
-    );
+    moves(1, 8, 02122011, 10);
+    moves(1, 8, 21011222, 4);
+    moves(1, 8, 01011222, 8);
+    moves(1, 8, 22201011, 9);
+    moves(1, 8, 20211211, 2);
+    moves(2, 16, 0001001002220101, 12);
+    list_over(3, &three_rings(), &mut [7; 9]);
 }
 
 // Each refusal of a list, and a blocked mover with no list at all.
 fn refused_lists() {
-    moves(0, &[1, 1, 0, 2, 2, 1, 2, 0], &mut [7; 2]);
-    moves(1, &[1, 1, 0, 2, 2, 1, 2], &mut [7; 2]);
-    moves(1, &[1, 1, 3, 2, 2, 1, 2, 0], &mut [7; 2]);
-    moves(1, &[1, 1, 0, 2, 2, 0, 2, 0], &mut [7; 2]);
-    moves(1, &[1, 1, 0, 2, 2, 1, 2, 0], &mut [7; 7]);
-    moves(1, &[1, 1, 0, 2, 2, 1, 2, 0], &mut [7; 8]);
-    moves(1, &[1, 1, 1, 1, 2, 2, 2, 2], &mut []);
+    moves(0, 8, 02122011, 2);
+    moves(1, 7, 2122011, 2);
+    moves(1, 8, 02122311, 2);
+    moves(1, 8, 02022011, 2);
+    moves(1, 8, 02122011, 7);
+    moves(1, 8, 02122011, 8);
+    moves(1, 8, 22221111, 0);
 }
 
 // Moves made, with a removal and without, and each refusal; two stones may be left.
 fn plies() {
-    make_move(1, &[1, 1, 0, 2, 2, 1, 2, 0], 5187, &mut [7; 8]);
-    make_move(1, &[1, 1, 0, 2, 2, 1, 2, 0], 5188, &mut [7; 8]);
-    make_move(1, &[1, 1, 0, 2, 2, 1, 2, 0], 95, &mut [7; 8]);
-    make_move(1, &[1, 1, 0, 2, 2, 1, 2, 0], 96, &mut [7; 8]);
-    make_move(1, &[1, 1, 0, 2, 2, 1, 2, 0], 5215, &mut [7; 8]);
-    make_move(1, &[1, 1, 0, 2, 2, 1, 2, 0], 65535, &mut [7; 8]);
-    make_move(1, &[1, 1, 0, 2, 2, 1, 2, 0], 96, &mut [7; 9]);
-    make_move(1, &[1, 1, 0, 2, 2, 0, 2, 0], 95, &mut [7; 9]);
-    make_move(1, &[1, 1, 0, 2, 3, 1, 2, 0], 95, &mut [7; 8]);
-    make_move(1, &[1, 1, 0, 2, 2, 1, 2], 95, &mut [7; 7]);
-    make_move(4, &[1, 1, 0, 2, 2, 1, 2, 0], 95, &mut [7; 8]);
-    make_move(
-        3,
-        &[
-            0,
-            1,
-            0,
-            2,
-            0,
-            0,
-            0,
-            0,
-            0,
-            1,
-            0,
-            2,
-            0,
-            0,
-            0,
-            0,
-            0,
-            0,
-            1,
-            2,
-            2,
-            0,
-            0,
-            1,
-        ],
-        18996,
-        &mut [7; 24],
-    );
+    make_move(1, 8, 02122011, 5187, 8);
+    make_move(1, 8, 02122011, 5188, 8);
+    make_move(1, 8, 02122011, 95, 8);
+    make_move(1, 8, 02122011, 96, 8);
+    make_move(1, 8, 02122011, 5215, 8);
+    make_move(1, 8, 02122011, 65535, 8);
+    make_move(1, 8, 02122011, 96, 9);
+    make_move(1, 8, 02022011, 95, 9);
+    make_move(1, 8, 02132011, 95, 8);
+    make_move(1, 7, 2122011, 95, 7);
+    make_move(4, 8, 02122011, 95, 8);
+    make_over(3, &three_rings(), 18996, &mut [7; 24]);
 }
 
 // The rank of the board after a move, 1000 where its mover has two stones.
@@ -161,21 +120,12 @@ fn next(rings: u8, board: &[u8], move_number: u16, target: &mut [u8]) -> u64 {
     r
 }
 
-fn least(x: usize, y: usize) -> usize
-    ensures { λ r. ⌜ r ≤ y ⌝ }
-{
-    if x < y {
-        return x;
-    }
-    y
-}
-
 // A board's first n moves: their numbers, and the ranks that they lead to, added up.
 fn sum(rings: u8, board: &[u8], list: &[u16], n: usize, target: &mut [u8]) -> u64 {
-    let end = least(n, list.len());
+    let most = least(n, list.len());
     let mut s: u64 = 0;
     let mut i = 0;
-    while i < end {
+    while i < most {
         let number = list[i];
         let rank = next(rings, board, number, target);
         s = add(s, add(wider(number), rank));
@@ -228,30 +178,33 @@ fn total(
     s
 }
 
-fn sums(
-    rings: u8,
-    mover: u8,
-    opponent: u8,
-    n: u64,
-    step: u64,
-    board: &mut [u8],
-    target: &mut [u8],
-) {
+fn sums(rings: u8, mover: u8, opponent: u8, n: u64, step: u64) {
     table(b"sum of moves", rings, mover, opponent);
-    text(b":");
-    number(total(rings, mover, opponent, n, step, board, target));
-    text(b"\n");
+    colon();
+    let mut board = [0u8; 24];
+    let mut target = [0u8; 24];
+    let p = least(8 * rings as usize, 24);
+    number(total(
+        rings,
+        mover,
+        opponent,
+        n,
+        step,
+        &mut board[0..p],
+        &mut target[0..p],
+    ));
+    end();
 }
 
 // Whole tables of one ring, and tables of two and three rings from end to end.
 fn totals() {
-    sums(1, 3, 3, 560, 1, &mut [0; 8], &mut [0; 8]);
-    sums(1, 4, 3, 280, 1, &mut [0; 8], &mut [0; 8]);
-    sums(2, 3, 4, 20000, 20, &mut [0; 16], &mut [0; 16]);
-    sums(2, 5, 4, 20000, 72, &mut [0; 16], &mut [0; 16]);
-    sums(3, 3, 9, 20000, 29745, &mut [0; 24], &mut [0; 24]);
-    sums(3, 4, 3, 20000, 605, &mut [0; 24], &mut [0; 24]);
-    sums(3, 9, 9, 20000, 327202, &mut [0; 24], &mut [0; 24]);
+    sums(1, 3, 3, 560, 1);
+    sums(1, 4, 3, 280, 1);
+    sums(2, 3, 4, 20000, 20);
+    sums(2, 5, 4, 20000, 72);
+    sums(3, 3, 9, 20000, 29745);
+    sums(3, 4, 3, 20000, 605);
+    sums(3, 9, 9, 20000, 327202);
 }
 
 pub fn run() {

@@ -7,10 +7,10 @@ use Rattle.cases.proofs.plays.sum.Statement.{statement}
 use Rattle.cases.proofs.plays.sum.Tie as tie
 
 abbrev Inv-loop : tie.InvT-loop
-Inv-loop rings board list n target₀ end s₀ i₀ target s i = (i ≤ end) × (length target ≡ length target₀)
+Inv-loop rings board list n target₀ most s₀ i₀ target s i = (i ≤ most) × (length target ≡ length target₀)
 
 abbrev μ-loop : tie.MeasureT-loop
-μ-loop rings board list n target₀ end s₀ i₀ target s i = end - i
+μ-loop rings board list n target₀ most s₀ i₀ target s i = most - i
 
 least-requires : tie.Need-least-requires Inv-loop μ-loop
 least-requires c κs = search needs

@@ -7,10 +7,10 @@ use Rattle.cases.proofs.ranks.back.Statement.{statement}
 use Rattle.cases.proofs.ranks.back.Tie as tie
 
 abbrev Inv-loop : tie.InvT-loop
-Inv-loop rings mover opponent end target₀ n₀ r₀ target n r = (n ≤ r) × (r ≤ end) × (length target ≡ length target₀)
+Inv-loop rings mover opponent ranks target₀ n₀ r₀ target n r = (n ≤ r) × (r ≤ ranks) × (length target ≡ length target₀)
 
 abbrev μ-loop : tie.MeasureT-loop
-μ-loop rings mover opponent end target₀ n₀ r₀ target n r = end - r
+μ-loop rings mover opponent ranks target₀ n₀ r₀ target n r = ranks - r
 
 loop-holds : tie.Need-loop-holds Inv-loop μ-loop
 loop-holds c = search needs

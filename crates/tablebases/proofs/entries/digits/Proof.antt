@@ -1,10 +1,10 @@
--- `cases::entries::digits` is safe and ends. Assumes nothing.
+-- `tablebases::entries::digits` is safe and ends. Assumes nothing.
 use mathlib.Core.Path.{_≡_}
 use Prim.Native.Nat.{_-_, _≤_}
 use lib.ListN.{length}
 use borrow.Author.Needs.{needs}
-use Rattle.cases.proofs.entries.digits.Statement.{statement}
-use Rattle.cases.proofs.entries.digits.Tie as tie
+use Rattle.tablebases.proofs.entries.digits.Statement.{statement}
+use Rattle.tablebases.proofs.entries.digits.Tie as tie
 
 abbrev Inv-loop : tie.InvT-loop
 Inv-loop mover opponent size board₀ tablebase digits₀ rank₀ board digits rank = (rank ≤ size) × (length board ≡ length board₀)

@@ -2,15 +2,19 @@
 use super::fills::VOID_ENTRY;
 use super::fills::make_up;
 use super::fills::with_digit;
-use super::printing::about;
-use super::printing::number;
-use super::printing::refused;
-use super::printing::table;
-use super::printing::text;
-use super::printing::wider;
 use morris::Chosen;
 use morris::Looked;
 use morris::Unranked;
+use notation::about;
+use notation::board_of;
+use notation::colon;
+use notation::end;
+use notation::least;
+use notation::number;
+use notation::refused;
+use notation::table;
+use notation::text;
+use notation::wider;
 
 fn looked(answer: Looked) {
     match answer {
@@ -29,66 +33,78 @@ fn chosen(answer: Chosen) {
     }
 }
 
-// The entry of a board in a tablebase of largest count k.
-fn lookup(rings: u8, board: &[u8], k: u8, tablebase: &[u16]) {
+fn lookup_of(rings: u8, board: &[u8], k: u8, tablebase: &[u16]) {
     about(b"lookup", rings, board);
     number(k as u64);
-    text(b":");
+    colon();
     looked(morris::lookup(rings, board, k, tablebase));
-    text(b"\n");
+    end();
+}
+
+fn best_move_of(rings: u8, board: &[u8], k: u8, tablebase: &[u16]) {
+    about(b"best move", rings, board);
+    number(k as u64);
+    colon();
+    chosen(morris::best_move(rings, board, k, tablebase));
+    end();
+}
+
+// The entry of a board of so many points in a tablebase of largest count k.
+fn lookup(rings: u8, length: usize, digits: u64, k: u8, tablebase: &[u16]) {
+    let board = board_of(digits);
+    let n = least(length, 16);
+    lookup_of(rings, &board[0..n], k, tablebase);
 }
 
 // The best move of a board, and the entry of the successor that it leads to.
-fn best_move(rings: u8, board: &[u8], k: u8, tablebase: &[u16]) {
-    about(b"best move", rings, board);
-    number(k as u64);
-    text(b":");
-    chosen(morris::best_move(rings, board, k, tablebase));
-    text(b"\n");
+fn best_move(rings: u8, length: usize, digits: u64, k: u8, tablebase: &[u16]) {
+    let board = board_of(digits);
+    let n = least(length, 16);
+    best_move_of(rings, &board[0..n], k, tablebase);
 }
 
 // Document 01's two boards, four against four, five against three, and a draw; K 9 has the same places.
 fn lookups(tablebase: &[u16]) {
-    lookup(1, &[1, 1, 0, 2, 2, 1, 2, 0], 5, tablebase);
-    lookup(1, &[2, 0, 2, 0, 2, 1, 1, 1], 5, tablebase);
-    lookup(1, &[2, 2, 2, 2, 1, 1, 1, 1], 5, tablebase);
-    lookup(1, &[1, 2, 1, 2, 1, 2, 1, 1], 5, tablebase);
-    lookup(1, &[2, 2, 1, 1, 2, 1, 0, 0], 5, tablebase);
-    lookup(1, &[1, 1, 0, 2, 2, 1, 2, 0], 9, tablebase);
+    lookup(1, 8, 02122011, 5, tablebase);
+    lookup(1, 8, 11120202, 5, tablebase);
+    lookup(1, 8, 11112222, 5, tablebase);
+    lookup(1, 8, 11212121, 5, tablebase);
+    lookup(1, 8, 00121122, 5, tablebase);
+    lookup(1, 8, 02122011, 9, tablebase);
 }
 
 // Each refusal, and the first of two.
 fn refused_lookups(tablebase: &[u16]) {
-    lookup(0, &[1, 1, 0, 2, 2, 1, 2, 0], 5, tablebase);
-    lookup(4, &[1, 1, 0], 5, tablebase);
-    lookup(1, &[1, 1, 0, 2, 2, 1, 2], 5, tablebase);
-    lookup(2, &[1, 1, 0, 2, 2, 1, 2, 3], 5, tablebase);
-    lookup(1, &[1, 1, 0, 2, 2, 1, 2, 3], 5, tablebase);
-    lookup(1, &[1, 1, 0, 2, 2, 3, 2, 0], 5, tablebase);
-    lookup(1, &[1, 1, 0, 2, 2, 0, 2, 0], 2, tablebase);
-    lookup(1, &[1, 1, 0, 2, 2, 1, 2, 0], 2, tablebase);
-    lookup(1, &[1, 1, 0, 2, 2, 1, 2, 0], 10, tablebase);
-    lookup(1, &[1, 2, 1, 2, 1, 2, 1, 1], 4, tablebase);
-    lookup(1, &[1, 1, 0, 2, 2, 1, 2, 0], 4, tablebase);
+    lookup(0, 8, 02122011, 5, tablebase);
+    lookup(4, 3, 011, 5, tablebase);
+    lookup(1, 7, 2122011, 5, tablebase);
+    lookup(2, 8, 32122011, 5, tablebase);
+    lookup(1, 8, 32122011, 5, tablebase);
+    lookup(1, 8, 02322011, 5, tablebase);
+    lookup(1, 8, 02022011, 2, tablebase);
+    lookup(1, 8, 02122011, 2, tablebase);
+    lookup(1, 8, 02122011, 10, tablebase);
+    lookup(1, 8, 11212121, 4, tablebase);
+    lookup(1, 8, 02122011, 4, tablebase);
 }
 
 // Document 01's two boards; the last listed of three wins, a draw rather than a loss; a blocked mover.
 fn best_moves(tablebase: &[u16]) {
-    best_move(1, &[1, 1, 0, 2, 2, 1, 2, 0], 5, tablebase);
-    best_move(1, &[2, 0, 2, 0, 2, 1, 1, 1], 5, tablebase);
-    best_move(1, &[2, 2, 2, 1, 2, 1, 1, 0], 5, tablebase);
-    best_move(1, &[2, 2, 1, 1, 2, 1, 0, 0], 5, tablebase);
-    best_move(1, &[2, 2, 2, 2, 1, 1, 1, 1], 5, tablebase);
+    best_move(1, 8, 02122011, 5, tablebase);
+    best_move(1, 8, 11120202, 5, tablebase);
+    best_move(1, 8, 01121222, 5, tablebase);
+    best_move(1, 8, 00121122, 5, tablebase);
+    best_move(1, 8, 11112222, 5, tablebase);
 }
 
 // Each refusal but 12, and the first of two.
 fn refused_best_moves(tablebase: &[u16]) {
-    best_move(0, &[1, 1, 0], 5, tablebase);
-    best_move(1, &[1, 1, 0, 2, 2, 1, 2], 5, tablebase);
-    best_move(1, &[1, 1, 0, 2, 2, 3, 2, 0], 5, tablebase);
-    best_move(1, &[1, 1, 0, 2, 2, 0, 2, 0], 2, tablebase);
-    best_move(1, &[1, 2, 1, 2, 1, 2, 1, 1], 4, tablebase);
-    best_move(1, &[2, 2, 2, 2, 1, 1, 1, 1], 4, tablebase);
+    best_move(0, 3, 011, 5, tablebase);
+    best_move(1, 7, 2122011, 5, tablebase);
+    best_move(1, 8, 02322011, 5, tablebase);
+    best_move(1, 8, 02022011, 2, tablebase);
+    best_move(1, 8, 11212121, 4, tablebase);
+    best_move(1, 8, 11112222, 4, tablebase);
 }
 
 fn entry_of(answer: Looked) -> u64 {
@@ -137,7 +153,7 @@ fn answers(word: &[u8], mover: u8, opponent: u8, size: u64, tablebase: &[u16]) {
     table(word, 1, mover, opponent);
     text(b": digits");
     number(digits(mover, opponent, size, &mut [0; 8], tablebase));
-    text(b"\n");
+    end();
 }
 
 // Every table of the tablebase.
@@ -154,13 +170,13 @@ fn tables(word: &[u8], tablebase: &[u16]) {
 fn void_entry() {
     let mut tablebase = [7u16; 1302];
     tablebase[117] = VOID_ENTRY;
-    lookup(1, &[1, 1, 0, 2, 2, 1, 2, 0], 5, &tablebase);
-    lookup(1, &[2, 0, 2, 0, 2, 1, 1, 1], 5, &tablebase);
-    lookup(1, &[1, 1, 0, 2, 2, 1, 2, 0], 3, &tablebase);
-    best_move(1, &[1, 1, 0, 2, 2, 1, 2, 0], 5, &tablebase);
-    best_move(1, &[2, 2, 0, 1, 1, 2, 0, 1], 5, &tablebase);
-    best_move(1, &[2, 2, 0, 1, 1, 2, 0, 1], 4, &tablebase);
-    best_move(1, &[2, 0, 2, 0, 2, 1, 1, 1], 5, &tablebase);
+    lookup(1, 8, 02122011, 5, &tablebase);
+    lookup(1, 8, 11120202, 5, &tablebase);
+    lookup(1, 8, 02122011, 3, &tablebase);
+    best_move(1, 8, 02122011, 5, &tablebase);
+    best_move(1, 8, 10211022, 5, &tablebase);
+    best_move(1, 8, 10211022, 4, &tablebase);
+    best_move(1, 8, 11120202, 5, &tablebase);
     answers(b"answers beside a void", 3, 3, 560, &tablebase);
 }
 

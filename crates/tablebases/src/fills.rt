@@ -1,11 +1,15 @@
 // Tablebases filled, whole and pair by pair: what each call answered, and sums over what the buffer then holds.
-use super::printing::add;
-use super::printing::number;
-use super::printing::refused;
-use super::printing::table;
-use super::printing::text;
-use super::printing::wider;
 use morris::Solved;
+use notation::add;
+use notation::colon;
+use notation::end;
+use notation::least;
+use notation::number;
+use notation::refused;
+use notation::space;
+use notation::table;
+use notation::text;
+use notation::wider;
 
 const DRAW_ENTRY: u16 = 65535;
 
@@ -78,7 +82,7 @@ fn contents(tablebase: &[u16]) {
     number(sums.depths);
     text(b" digits");
     number(sums.digits);
-    text(b"\n");
+    end();
 }
 
 fn solved(answer: Solved) {
@@ -105,7 +109,7 @@ fn put(tablebase: &mut [u16], place: usize, entry: u16) {
 }
 
 // A tablebase filled whole, in a buffer that holds one entry throughout.
-fn fill(rings: u8, k: u8, limit: u32, tablebase: &mut [u16], entry: u16) {
+fn fill_in(rings: u8, k: u8, limit: u32, tablebase: &mut [u16], entry: u16) {
     hold(tablebase, entry);
     text(b"fill");
     number(rings as u64);
@@ -115,9 +119,16 @@ fn fill(rings: u8, k: u8, limit: u32, tablebase: &mut [u16], entry: u16) {
     number(tablebase.len() as u64);
     text(b" of");
     number(wider(entry));
-    text(b":");
+    colon();
     solved(morris::fill(rings, k, limit, tablebase));
     contents(tablebase);
+}
+
+// The same in a buffer of so many entries, 1302 at most.
+fn fill(rings: u8, k: u8, limit: u32, length: usize, entry: u16) {
+    let mut tablebase = [0u16; 1302];
+    let n = least(length, 1302);
+    fill_in(rings, k, limit, &mut tablebase[0..n], entry);
 }
 
 // The tables of two counts filled, in a buffer that holds what earlier lines left.
@@ -125,16 +136,16 @@ fn fill_pair(rings: u8, mover: u8, opponent: u8, k: u8, limit: u32, tablebase: &
     table(b"fill pair", rings, mover, opponent);
     number(k as u64);
     number(limit as u64);
-    text(b":");
+    colon();
     solved(morris::fill_pair(rings, mover, opponent, k, limit, tablebase));
     contents(tablebase);
 }
 
 // Whatever the buffer held: zeros, sevens, voids.
-fn whole(k: u8, tablebase: &mut [u16]) {
-    fill(1, k, 2000, tablebase, 0);
-    fill(1, k, 2000, tablebase, 7);
-    fill(1, k, 2000, tablebase, VOID_ENTRY);
+fn whole(k: u8, length: usize) {
+    fill(1, k, 2000, length, 0);
+    fill(1, k, 2000, length, 7);
+    fill(1, k, 2000, length, VOID_ENTRY);
 }
 
 // The entries of four against four: the last table with K 4.
@@ -147,25 +158,25 @@ fn four_against_four() {
 
 // The limits of one ring with K 3: those too low and the least that is not, the highest and the first that is refused.
 fn limits() {
-    fill(1, 3, 0, &mut [0; 560], 7);
-    fill(1, 3, 1, &mut [0; 560], 7);
-    fill(1, 3, 2, &mut [0; 560], 7);
-    fill(1, 3, 3, &mut [0; 560], 7);
-    fill(1, 3, 65533, &mut [0; 560], 7);
-    fill(1, 3, 65534, &mut [0; 560], 7);
+    fill(1, 3, 0, 560, 7);
+    fill(1, 3, 1, 560, 7);
+    fill(1, 3, 2, 560, 7);
+    fill(1, 3, 3, 560, 7);
+    fill(1, 3, 65533, 560, 7);
+    fill(1, 3, 65534, 560, 7);
 }
 
 // Each refusal of a whole tablebase, and the first of two.
 fn refused_fills() {
-    fill(0, 3, 2000, &mut [0; 560], 7);
-    fill(4, 2, 2000, &mut [0; 560], 7);
-    fill(1, 2, 2000, &mut [0; 560], 7);
-    fill(1, 10, 65534, &mut [0; 560], 7);
-    fill(1, 4, 2000, &mut [0; 560], 7);
-    fill(2, 3, 65534, &mut [0; 560], 7);
-    fill(3, 9, 2000, &mut [0; 560], 7);
-    fill(1, 3, 65536, &mut [0; 560], 7);
-    fill(1, 3, 4294967295, &mut [0; 560], 7);
+    fill(0, 3, 2000, 560, 7);
+    fill(4, 2, 2000, 560, 7);
+    fill(1, 2, 2000, 560, 7);
+    fill(1, 10, 65534, 560, 7);
+    fill(1, 4, 2000, 560, 7);
+    fill(2, 3, 65534, 560, 7);
+    fill(3, 9, 2000, 560, 7);
+    fill(1, 3, 65536, 560, 7);
+    fill(1, 3, 4294967295, 560, 7);
 }
 
 // Every pair of one ring in order: the last line has the sums of a whole fill.
@@ -176,38 +187,45 @@ fn pairs(tablebase: &mut [u16]) {
     fill_pair(1, 3, 5, 5, 2000, tablebase);
 }
 
+// A pair with K 4 or less in a buffer of sevens.
+fn refused_pair(rings: u8, mover: u8, opponent: u8, k: u8, limit: u32) {
+    let mut tablebase = [7u16; 1190];
+    fill_pair(rings, mover, opponent, k, limit, &mut tablebase);
+}
+
 // Each refusal of a pair's counts, K, length and limit, and the first of two.
 fn refused_pairs() {
-    fill_pair(0, 3, 3, 4, 2000, &mut [7; 1190]);
-    fill_pair(4, 2, 3, 4, 2000, &mut [7; 1190]);
-    fill_pair(1, 2, 3, 4, 2000, &mut [7; 1190]);
-    fill_pair(1, 3, 10, 4, 2000, &mut [7; 1190]);
-    fill_pair(1, 5, 4, 3, 2000, &mut [7; 1190]);
-    fill_pair(1, 3, 3, 2, 2000, &mut [7; 1190]);
-    fill_pair(1, 3, 3, 10, 2000, &mut [7; 1190]);
-    fill_pair(1, 5, 3, 4, 2000, &mut [7; 1190]);
-    fill_pair(1, 3, 3, 5, 65534, &mut [7; 1190]);
-    fill_pair(1, 3, 3, 4, 65534, &mut [7; 1190]);
+    refused_pair(0, 3, 3, 4, 2000);
+    refused_pair(4, 2, 3, 4, 2000);
+    refused_pair(1, 2, 3, 4, 2000);
+    refused_pair(1, 3, 10, 4, 2000);
+    refused_pair(1, 5, 4, 3, 2000);
+    refused_pair(1, 3, 3, 2, 2000);
+    refused_pair(1, 3, 3, 10, 2000);
+    refused_pair(1, 5, 3, 4, 2000);
+    refused_pair(1, 3, 3, 5, 65534);
+    refused_pair(1, 3, 3, 4, 65534);
 }
 
 // A pair filled in a buffer with one void among zeros.
-fn with_void(tablebase: &mut [u16], place: usize, mover: u8, limit: u32) {
+fn with_void(place: usize, mover: u8, limit: u32) {
     text(b"void at");
     number(place as u64);
-    text(b" ");
-    put(tablebase, place, VOID_ENTRY);
-    fill_pair(1, mover, 4, 4, limit, tablebase);
+    space();
+    let mut tablebase = [0u16; 1190];
+    put(&mut tablebase, place, VOID_ENTRY);
+    fill_pair(1, mover, 4, 4, limit, &mut tablebase);
 }
 
 // Four against four with limit 0: void before, in and after (3, 4), which alone is lower; then refusals beside 12.
 fn voids() {
     fill_pair(1, 4, 4, 4, 0, &mut [0; 1190]);
-    with_void(&mut [0; 1190], 559, 4, 0);
-    with_void(&mut [0; 1190], 560, 4, 0);
-    with_void(&mut [0; 1190], 839, 4, 0);
-    with_void(&mut [0; 1190], 840, 4, 0);
-    with_void(&mut [0; 1190], 559, 3, 0);
-    with_void(&mut [0; 1190], 559, 3, 65534);
+    with_void(559, 4, 0);
+    with_void(560, 4, 0);
+    with_void(839, 4, 0);
+    with_void(840, 4, 0);
+    with_void(559, 3, 0);
+    with_void(559, 3, 65534);
 }
 
 // A made-up entry: a draw, one of two depths that follow each other, or a depth below 9.
@@ -255,16 +273,16 @@ fn gaps(tablebase: &mut [u16]) {
 // Two rings: K 3 whole, and a pair with a gap before 12.
 fn two_rings() {
     let mut tablebase = [0u16; 160160];
-    fill(2, 3, 2000, &mut tablebase, 7);
+    fill_in(2, 3, 2000, &mut tablebase, 7);
     let mut larger = [0u16; 1861860];
     fill_over(2, &mut larger, 12, 2000);
 }
 
 pub fn run() {
-    whole(3, &mut [0; 560]);
-    whole(4, &mut [0; 1190]);
-    whole(5, &mut [0; 1302]);
-    whole(9, &mut [0; 1302]);
+    whole(3, 560);
+    whole(4, 1190);
+    whole(5, 1302);
+    whole(9, 1302);
     four_against_four();
     limits();
     refused_fills();

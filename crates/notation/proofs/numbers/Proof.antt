@@ -1,9 +1,9 @@
--- `cases::printing::numbers` is safe and ends. Assumes nothing.
+-- `notation::numbers` is safe and ends. Assumes nothing.
 use Prim.Native.Nat.{_-_, _≤_}
 use lib.ListN.{length}
 use borrow.Author.Needs.{needs}
-use Rattle.cases.proofs.printing.numbers.Statement.{statement}
-use Rattle.cases.proofs.printing.numbers.Tie as tie
+use Rattle.notation.proofs.numbers.Statement.{statement}
+use Rattle.notation.proofs.numbers.Tie as tie
 
 abbrev Inv-loop : tie.InvT-loop
 Inv-loop list i₀ i = i ≤ length list

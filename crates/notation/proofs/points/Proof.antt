@@ -1,9 +1,9 @@
--- `cases::printing::points` is safe and ends. Assumes nothing.
+-- `notation::points` is safe and ends. Assumes nothing.
 use Prim.Native.Nat.{_≤_}
 use borrow.Author.Needs.{needs}
 use lib.ListN.{length}
-use Rattle.cases.proofs.printing.points.Statement.{statement}
-use Rattle.cases.proofs.printing.points.Tie as tie
+use Rattle.notation.proofs.points.Statement.{statement}
+use Rattle.notation.proofs.points.Tie as tie
 
 abbrev Inv-loop : tie.InvT-loop
 Inv-loop board i₀ i = i ≤ length board

@@ -1,10 +1,16 @@
 // Frames read and written.
-use super::printing::about;
-use super::printing::number;
-use super::printing::refused;
-use super::printing::text;
+use super::boards::three_rings;
 use morris::Frame;
 use morris::Framed;
+use notation::about;
+use notation::board_of;
+use notation::colon;
+use notation::end;
+use notation::least;
+use notation::number;
+use notation::refused;
+use notation::space;
+use notation::text;
 
 fn taken_apart(answer: Frame) {
     match answer {
@@ -32,19 +38,27 @@ fn framed(answer: Framed) {
 fn read_frame(frame: &[u8]) {
     text(b"read frame ");
     text(frame);
-    text(b":");
+    colon();
     taken_apart(morris::read_frame(frame));
-    text(b"\n");
+    end();
 }
 
-// A board as a frame, and what the target then holds.
-fn write_frame(rings: u8, board: &[u8], target: &mut [u8]) {
+fn write_over(rings: u8, board: &[u8], target: &mut [u8]) {
     about(b"write frame", rings, board);
-    text(b":");
+    colon();
     framed(morris::write_frame(rings, board, target));
-    text(b" ");
+    space();
     text(target);
-    text(b"\n");
+    end();
+}
+
+// A board as a frame, and what a target of dots then holds.
+fn write_frame(rings: u8, length: usize, digits: u64, room: usize) {
+    let board = board_of(digits);
+    let n = least(length, 16);
+    let mut target = [46u8; 16];
+    let m = least(room, 16);
+    write_over(rings, &board[0..n], &mut target[0..m]);
 }
 
 // Document 01's two frames, one of two and one of three rings.
@@ -74,50 +88,17 @@ fn refused_frames() {
     read_frame(b"03840084009042000000");
 }
 
-// Boards written, with a target of dots: places beyond the frame and a refused target keep them.
+// Boards written: places beyond the frame and a refused target keep their dots.
 fn written() {
-    write_frame(1, &[1, 1, 0, 2, 2, 1, 2, 0], &mut [46; 8]);
-    write_frame(1, &[2, 0, 2, 0, 2, 1, 1, 1], &mut [46; 6]);
-    write_frame(1, &[2, 0, 2, 0, 2, 1, 1, 1], &mut [46; 5]);
-    write_frame(
-        2,
-        &[1, 0, 1, 0, 2, 2, 2, 0, 0, 1, 0, 0, 1, 0, 0, 0],
-        &mut [46; 10],
-    );
-    write_frame(
-        3,
-        &[
-            0,
-            1,
-            0,
-            2,
-            0,
-            0,
-            0,
-            0,
-            0,
-            1,
-            0,
-            2,
-            0,
-            0,
-            0,
-            0,
-            0,
-            0,
-            1,
-            2,
-            2,
-            0,
-            0,
-            1,
-        ],
-        &mut [46; 16],
-    );
-    write_frame(0, &[1, 1, 0, 2, 2, 1, 2, 0], &mut [46; 6]);
-    write_frame(1, &[1, 1, 0, 2, 2, 1, 2], &mut [46; 6]);
-    write_frame(1, &[1, 1, 0, 2, 2, 1, 2, 3], &mut [46; 6]);
-    write_frame(1, &[1, 1, 0, 2, 2, 1, 0, 0], &mut [46; 2]);
+    write_frame(1, 8, 02122011, 8);
+    write_frame(1, 8, 11120202, 6);
+    write_frame(1, 8, 11120202, 5);
+    write_frame(2, 16, 0001001002220101, 10);
+    write_over(3, &three_rings(), &mut [46; 16]);
+    write_frame(0, 8, 02122011, 6);
+    write_frame(1, 7, 2122011, 6);
+    write_frame(1, 8, 32122011, 6);
+    write_frame(1, 8, 00122011, 2);
 }
 
 pub fn run() {

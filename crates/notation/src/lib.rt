@@ -1,12 +1,25 @@
-// What the lines are made of.
+// How the test programs write words, numbers, refusals and boards. Boards are written as the papers write them, from the highest point down.
+ghost use Prim.Native.Nat.{_≤_};
 use libc::STDOUT_FILENO;
 
 pub fn text(s: &[u8]) {
     io::write_all(STDOUT_FILENO, s);
 }
 
-pub fn number(n: u64) {
+pub fn space() {
     text(b" ");
+}
+
+pub fn colon() {
+    text(b":");
+}
+
+pub fn end() {
+    text(b"\n");
+}
+
+pub fn number(n: u64) {
+    space();
     io::print_decimal(STDOUT_FILENO, n);
 }
 
@@ -50,7 +63,7 @@ pub fn refused(n: u8) {
 pub fn about(word: &[u8], rings: u8, board: &[u8]) {
     text(word);
     number(rings as u64);
-    text(b" ");
+    space();
     points(board);
 }
 
@@ -60,4 +73,27 @@ pub fn table(word: &[u8], rings: u8, mover: u8, opponent: u8) {
     number(rings as u64);
     number(mover as u64);
     number(opponent as u64);
+}
+
+// The board that a number's digits write, the last of them point 0.
+pub fn board_of(digits: u64) -> [u8; 16] {
+    let mut board = [0u8; 16];
+    let mut left = digits;
+    let mut i = 0;
+    while i < 16 {
+        board[i] = (left % 10) as u8;
+        left = left / 10;
+        i += 1;
+    }
+    board
+}
+
+// The lesser of a length and the room there is for it.
+pub fn least(length: usize, room: usize) -> usize
+    ensures { λ r. ⌜ r ≤ room ⌝ }
+{
+    if length < room {
+        return length;
+    }
+    room
 }
