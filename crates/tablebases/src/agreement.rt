@@ -2,6 +2,7 @@
 use notation::add;
 use notation::colon;
 use notation::end;
+use notation::least;
 use notation::number;
 use notation::text;
 use notation::wider;
@@ -66,10 +67,23 @@ fn compare(rings: u8, k: u8, entries: &mut [u16], others: &mut [u16]) {
 }
 
 // The buffers start with unequal entries, so that nothing left as it was is taken for agreement.
+fn one_ring(k: u8, length: usize) {
+    let mut entries = [7u16; 1302];
+    let mut others = [9u16; 1302];
+    let n = least(length, 1302);
+    compare(1, k, &mut entries[0..n], &mut others[0..n]);
+}
+
+fn two_rings() {
+    let mut entries = [7u16; 160160];
+    let mut others = [9u16; 160160];
+    compare(2, 3, &mut entries, &mut others);
+}
+
 pub fn run() {
-    compare(1, 3, &mut [7; 560], &mut [9; 560]);
-    compare(1, 4, &mut [7; 1190], &mut [9; 1190]);
-    compare(1, 5, &mut [7; 1302], &mut [9; 1302]);
-    compare(1, 9, &mut [7; 1302], &mut [9; 1302]);
-    compare(2, 3, &mut [7; 160160], &mut [9; 160160]);
+    one_ring(3, 560);
+    one_ring(4, 1190);
+    one_ring(5, 1302);
+    one_ring(9, 1302);
+    two_rings();
 }

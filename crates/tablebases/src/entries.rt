@@ -71,6 +71,7 @@ fn lookups(tablebase: &[u16]) {
     lookup(1, 8, 11212121, 5, tablebase);
     lookup(1, 8, 00121122, 5, tablebase);
     lookup(1, 8, 02122011, 9, tablebase);
+    lookup(1, 8, 11212121, 9, tablebase);
 }
 
 // Each refusal, and the first of two.

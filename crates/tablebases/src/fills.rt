@@ -179,12 +179,14 @@ fn refused_fills() {
     fill(1, 3, 4294967295, 560, 7);
 }
 
-// Every pair of one ring in order: the last line has the sums of a whole fill.
+// Every pair of one ring in order: the last of them has the sums of a whole fill. K 9 has the same places, and four against five no room.
 fn pairs(tablebase: &mut [u16]) {
     fill_pair(1, 3, 3, 5, 2000, tablebase);
     fill_pair(1, 4, 3, 5, 2000, tablebase);
     fill_pair(1, 4, 4, 5, 2000, tablebase);
     fill_pair(1, 3, 5, 5, 2000, tablebase);
+    fill_pair(1, 5, 3, 9, 2000, tablebase);
+    fill_pair(1, 5, 4, 9, 2000, tablebase);
 }
 
 // A pair with K 4 or less in a buffer of sevens.
