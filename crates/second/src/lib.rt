@@ -10,11 +10,15 @@ mod order;
 mod plies;
 mod points;
 
+ghost use Rattle.second.specs.Kept.{KeptUnless};
+
 const DEEPEST: u16 = 65533;
 
 // Fills the tablebase of largest count k: at each place the plies to the end, even lost, odd won, or 65535 for a draw. `counts` is room to
 // work in. Answers whether it did: false, and both buffers unchanged, where rings, k or a length is wrong.
-pub fn solve(rings: u8, k: u8, entries: &mut [u16], counts: &mut [u16]) -> bool {
+pub fn solve(rings: u8, k: u8, entries: &mut [u16], counts: &mut [u16]) -> bool
+    ensures { λ r. ⌜ KeptUnless r (now (entries .entry)) (now (entries .exit)) × KeptUnless r (now (counts .entry)) (now (counts .exit)) ⌝ }
+{
     if (rings < 1) | (3 < rings) | (k < 3) | (9 < k) {
         return false;
     }
