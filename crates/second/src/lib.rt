@@ -1,5 +1,4 @@
-// A second solver, written apart from the others of the repository: it shares no code, no table and no definition with them, so that two
-// answers that agree were found on two ways.
+// A second solver, written apart: it shares no code, no table and no definition with the other crates, so what both find was found twice.
 //
 // A board is 24 bytes, neighbours and mills are arithmetics on ring and place, and the tablebase is found backwards. A first pass counts
 // the plies of each position and writes the ends; then, depth by depth, each position of that depth is taken back by every ply that can

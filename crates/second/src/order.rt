@@ -67,7 +67,7 @@ fn ways_of(ways: &[usize; 2500], n: usize, m: u8, o: u8) -> usize {
     get(ways, 100 * n + 10 * m as usize + o as usize)
 }
 
-// The size of table 10 m + o in a tablebase of largest count k, 0 where it has none.
+// The size of table 10 m + o in a tablebase of largest count k, 0 where it has no such table. The points are 8 to a ring.
 fn size_of(ways: &[usize; 2500], rings: u8, k: u8, table: usize) -> usize {
     let m = table / 10;
     let o = table % 10;

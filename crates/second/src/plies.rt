@@ -48,7 +48,8 @@ fn removals(board: &[u8; 24], rings: u8, opponent: u8) -> u16 {
     free
 }
 
-// Whether a stone goes from one point to another, vacant one: with three stones to any, else to a neighbour.
+// Whether a stone may go from one point to another: to a vacant one, with three stones to any, else to a neighbour. A move is taken back by
+// the same rule.
 pub fn goes(board: &[u8; 24], stones: u8, from: usize, to: usize) -> bool {
     (at(board, to) == 0) & ((stones == 3) | adjoin(from, to))
 }
@@ -142,8 +143,8 @@ fn open_at(
 ) {
     let position = position_at(ways, starts, rings, place);
     let board = position.board;
-    let removals = removals(&board, rings, position.o);
-    let tally = tally_of(&board, rings, position.m, removals);
+    let choices = removals(&board, rings, position.o);
+    let tally = tally_of(&board, rings, position.m, choices);
     put(entries, place, first_entry(tally, position.o));
     put(counts, place, tally.plies);
 }
