@@ -1,0 +1,90 @@
+// Representatives of classes.
+use super::boards::three_rings;
+use morris::Represented;
+use morris::Unranked;
+use notation::about;
+use notation::add;
+use notation::board_of;
+use notation::colon;
+use notation::end;
+use notation::least;
+use notation::number;
+use notation::refused;
+use notation::table;
+use notation::text;
+
+fn represented(answer: Represented) {
+    match answer {
+        Represented::Rank(r) => number(r),
+        Represented::Refused(n) => refused(n),
+    }
+}
+
+fn representative_of(rings: u8, board: &[u8]) {
+    about(b"representative", rings, board);
+    colon();
+    represented(morris::representative(rings, board));
+    end();
+}
+
+// The rank of the representative of a board's class.
+fn representative(rings: u8, length: usize, digits: u64) {
+    let board = board_of(digits);
+    let n = least(length, 16);
+    representative_of(rings, &board[0..n]);
+}
+
+// A board, a turn and a mirror of it; others, one with its rings reversed; and each refusal.
+fn boards() {
+    representative(1, 8, 02122011);
+    representative(1, 8, 11021220);
+    representative(1, 8, 10221201);
+    representative(1, 8, 11120202);
+    representative(1, 8, 22211100);
+    representative(2, 16, 0001001002220101);
+    representative(2, 16, 0222010100010010);
+    representative_of(3, &three_rings());
+    representative(0, 8, 02122011);
+    representative(1, 7, 2122011);
+    representative(1, 8, 42122011);
+    representative(1, 8, 01122011);
+}
+
+// 1 where a rank is its own representative's, else 0.
+fn own(rings: u8, mover: u8, opponent: u8, rank: u64, board: &mut [u8]) -> u64 {
+    let Unranked::Written = morris::unrank(rings, mover, opponent, rank, board) else {
+        return 0;
+    };
+    let Represented::Rank(r) = morris::representative(rings, board) else {
+        return 0;
+    };
+    if r == rank { 1 } else { 0 }
+}
+
+// How many of a table's ranks are.
+fn count(rings: u8, mover: u8, opponent: u8, size: u64, board: &mut [u8]) -> u64 {
+    let mut n: u64 = 0;
+    let mut r: u64 = 0;
+    while r < size {
+        n = add(n, own(rings, mover, opponent, r, board));
+        r += 1;
+    }
+    n
+}
+
+// How many classes a table has.
+fn classes(rings: u8, mover: u8, opponent: u8, size: u64) {
+    table(b"classes", rings, mover, opponent);
+    colon();
+    let mut board = [0u8; 24];
+    let n = least(8 * rings as usize, 24);
+    number(count(rings, mover, opponent, size, &mut board[0..n]));
+    end();
+}
+
+pub fn run() {
+    boards();
+    classes(1, 3, 3, 560);
+    classes(1, 5, 3, 56);
+    classes(2, 3, 3, 160160);
+}
