@@ -1,0 +1,42 @@
+-- `lines::answering::entry_of` meets its contract: `-` on more than one ring, else what the call answers. Assumes nothing.
+use mathlib.Core.Path.{_≡_, sym, ap, _∙_}
+use borrow.Author.Needs.{needs}
+use Rattle.morris.specs.declared.Looked.{Looked}
+use Rattle.morris.specs.LookupCall.{looked}
+use Rattle.lines.specs.Answers.{fieldOf, entryField}
+use Rattle.lines.proofs.Fields.{shown-here, absent-elsewhere}
+use Rattle.lines.proofs.answering.entry_of.Statement.{statement}
+use Rattle.lines.proofs.answering.entry_of.Tie as tie
+
+returns : tie.Need-returns
+unfolding entryField
+returns c = absent-elsewhere (c .before .before .before .args .rings) (c .if1 .taken) _
+
+lookup-requires : tie.Need-lookup-requires
+lookup-requires c κs = search needs
+
+enum-known-answer : tie.Need-enum-known-answer
+enum-known-answer c = search needs
+
+enum-told : tie.Need-enum-told
+enum-told c = search needs
+
+returns-2 : tie.Need-returns-2
+unfolding entryField
+returns-2 c =
+    let x = c .before .before in
+    sym (ap (λ (a : Looked). fieldOf (looked a)) (c .enum-told .given .1)) ∙ ap fieldOf (x .lookup .ensures)
+    ∙ shown-here (x .before .before .before .before .args .rings) (x .before .if1 .left) _
+
+cast-t7 : tie.Need-cast-t7
+cast-t7 c = search needs
+
+returns-3 : tie.Need-returns-3
+unfolding entryField
+returns-3 c =
+    let x = c .before .before .before in
+    sym (ap (λ (a : Looked). fieldOf (looked a)) (c .before .answer .given .1)) ∙ ap fieldOf (x .lookup .ensures)
+    ∙ shown-here (x .before .before .before .before .args .rings) (x .before .if1 .left) _
+
+pub entry-of-spec : {M : Type 1} → statement M
+entry-of-spec = tie.close (tie.spec returns lookup-requires enum-known-answer enum-told returns-2 cast-t7 returns-3)
