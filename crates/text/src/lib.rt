@@ -4,6 +4,7 @@ ghost use mathlib.Core.Path.{_≡_};
 ghost use Prim.Native.Nat.{_+_, _≤_};
 ghost use lib.ListN.{length};
 ghost use lib.Seq.{sets};
+ghost use Rattle.io.specs.Counts.{Counts};
 ghost use Rattle.text.specs.Text.{decimal, item, positionLine, refusedLine, header};
 
 // A field of a line: a number, or `-`.
@@ -90,12 +91,12 @@ pub fn put_refused(out: &mut [u8], at: usize, number: u64) -> usize
     put_item(out, next, Field::Number(number), b'\n')
 }
 
-// Writes the header.
-pub fn put_header(out: &mut [u8], at: usize) -> usize
-    requires { ⌜ at + 126 ≤ length (now out) ⌝ }
-    ensures place { λ r. ⌜ r ≡ at + length header ⌝ }
-    ensures bound { λ r. ⌜ r ≤ at + 126 ⌝ }
-    ensures buffer { λ _. ⌜ now (out .exit) ≡ sets (now (out .entry)) at header ⌝ }
+// Writes the header at the start.
+pub fn put_header(out: &mut [u8]) -> usize
+    requires { ⌜ 126 ≤ length (now out) ⌝ }
+    ensures place { λ r. ⌜ r ≡ length header ⌝ }
+    ensures bound { λ r. ⌜ Counts r (now (out .exit)) ⌝ }
+    ensures buffer { λ _. ⌜ now (out .exit) ≡ sets (now (out .entry)) 0 header ⌝ }
 {
-    put(out, at, b"rings mover opponent rank entry move\n")
+    put(out, 0, b"rings mover opponent rank entry move\n")
 }
