@@ -1,11 +1,11 @@
 -- The fields of a board's line, by what the calls answer, and a line that was written. Assumes nothing.
-use mathlib.Core.Path.{_≡_, subst, _∙_}
+use mathlib.Core.Path.{_≡_, refl, sym, subst, _∙_}
+use mathlib.Core.Bool.{Bool, true, false, not, false≢true}
 use mathlib.Core.List.{List, [], _∷_}
 use Prim.Native.Nat.{ℕ, _+_, _≤_}
 use lib.Dec.{eqb}
 use lib.ListN.{length}
 use lib.Seq.{sets}
-use borrow.Author.Tests.{eq-eqb, ne-eqb}
 use Rattle.sets.specs.Sets.{members}
 use Rattle.board.specs.declared.position.Position.{Position}
 use Rattle.board.specs.Board.{count, positionOf}
@@ -17,13 +17,21 @@ use Rattle.text.specs.declared.Field.the-variants.{Absent}
 use Rattle.text.specs.Text.{positionLine}
 use Rattle.lines.specs.Answers.{fieldOf, onOneRing, entryField, moveField, boardLine}
 
--- what is shown on one ring
-pub shown-here : (rings : ℕ) → rings ≡ 1 → (field : Field) → field ≡ onOneRing rings field
-shown-here rings e field = rw (eq-eqb rings 1 e, onOneRing)
+-- what is shown on one ring, and on more
+module _ (rings : ℕ) (field : Field) where
+  pub shown-here : false ≡ not (eqb rings 1) → field ≡ onOneRing rings field
+  shown-here e = go (eqb rings 1) e
+    where
+      go : (t : Bool) → false ≡ not t → field ≡ elim t [ true ↦ field | false ↦ Absent ]
+      go true e = refl
+      go false e = absurd (false≢true e)
 
--- and on more rings
-pub absent-elsewhere : (rings : ℕ) → (rings ≡ 1 → ⊥) → (field : Field) → Absent ≡ onOneRing rings field
-absent-elsewhere rings n field = rw (ne-eqb rings 1 n, onOneRing)
+  pub absent-elsewhere : true ≡ not (eqb rings 1) → Absent ≡ onOneRing rings field
+  absent-elsewhere e = go (eqb rings 1) e
+    where
+      go : (t : Bool) → true ≡ not t → Absent ≡ elim t [ true ↦ field | false ↦ Absent ]
+      go true e = absurd (false≢true (sym e))
+      go false e = refl
 
 -- a line of these fields is the board's
 pub board-line : (tablebase : List ℕ) (rings : ℕ) (b : List ℕ) → length b ≤ 24 → (p : Position) → p ≡ positionOf b → (m o r : ℕ) (entry move : Field)

@@ -2,3 +2,4 @@ pub mod Fields
 pub mod Reading
 pub mod Blocks
 pub mod Whole
+pub mod Filled

@@ -1,6 +1,8 @@
 // The answer to one line.
 ghost use mathlib.Core.Path.{_≡_};
+ghost use mathlib.Core.Bool.{not};
 ghost use Prim.Native.Nat.{_+_, _≤_};
+ghost use lib.Dec.{eqb};
 ghost use lib.ListN.{length};
 ghost use lib.Seq.{sets};
 ghost use Rattle.refusals.specs.Answers.{value};
@@ -15,6 +17,13 @@ use text::Field;
 
 // The largest count of the tablebase.
 pub const LARGEST_COUNT: u8 = 5;
+
+// Entry and move are `-` on two and three rings.
+fn is_absent(rings: u8) -> bool
+    ensures { λ r. ⌜ r ≡ not (eqb rings 1) ⌝ }
+{
+    rings != 1
+}
 
 // The rank of a board, 0 where the call is turned back.
 fn rank_of(rings: u8, board: &[u8]) -> u64
@@ -31,7 +40,7 @@ fn rank_of(rings: u8, board: &[u8]) -> u64
 fn entry_of(tablebase: &[u16], rings: u8, board: &[u8]) -> Field
     ensures { λ r. ⌜ r ≡ entryField (now (tablebase .entry)) rings (now (board .entry)) ⌝ }
 {
-    if rings != 1 {
+    if is_absent(rings) {
         return Field::Absent;
     }
     let answer = morris::lookup(rings, board, LARGEST_COUNT, tablebase);
@@ -45,7 +54,7 @@ fn entry_of(tablebase: &[u16], rings: u8, board: &[u8]) -> Field
 fn move_of(tablebase: &[u16], rings: u8, board: &[u8]) -> Field
     ensures { λ r. ⌜ r ≡ moveField (now (tablebase .entry)) rings (now (board .entry)) ⌝ }
 {
-    if rings != 1 {
+    if is_absent(rings) {
         return Field::Absent;
     }
     let answer = morris::best_move(rings, board, LARGEST_COUNT, tablebase);

@@ -74,7 +74,7 @@ in-use c =
     let a = f .before .before .before .before .args in
     let e = sym (ap frameRead (g .1)) ∙ f .read-frame .ensures in (
       omega (arith, few-rings (a .tablebase .now) (a .line .now) (g .0 .0) (g .0 .1 .0) (g .0 .1 .1 .0) e),
-      ap length (b .write-board .ensures) ∙ length-board 24 (record { mover = g .0 .1 .0; opponent = g .0 .1 .1 .0 }),
+      ap length (b .write-board .ensures) ∙ length-board 24 _,
     )
 
 array-share-prefix-board : tie.Need-array-share-prefix-board

@@ -8,9 +8,14 @@ use Rattle.lines.proofs.Fields.{shown-here, absent-elsewhere}
 use Rattle.lines.proofs.answering.move_of.Statement.{statement}
 use Rattle.lines.proofs.answering.move_of.Tie as tie
 
+is-absent-requires : tie.Need-is-absent-requires
+is-absent-requires c κs = search needs
+
 returns : tie.Need-returns
 unfolding moveField
-returns c = absent-elsewhere (c .before .before .before .args .rings) (c .if1 .taken) _
+returns c =
+    let x = c .before in
+    absent-elsewhere (x .before .before .before .args .rings) _ (sym (c .if1 .taken) ∙ x .is-absent .ensures)
 
 best-move-requires : tie.Need-best-move-requires
 best-move-requires c κs = search needs
@@ -25,8 +30,9 @@ returns-2 : tie.Need-returns-2
 unfolding moveField
 returns-2 c =
     let x = c .before .before in
+    let i = x .before in
     sym (ap (λ (a : Chosen). fieldOf (chosen a)) (c .enum-told .given .1)) ∙ ap fieldOf (x .best-move .ensures)
-    ∙ shown-here (x .before .before .before .before .args .rings) (x .before .if1 .left) _
+    ∙ shown-here (i .before .before .before .before .args .rings) _ (sym (i .if1 .left) ∙ i .before .is-absent .ensures)
 
 cast-t7 : tie.Need-cast-t7
 cast-t7 c = search needs
@@ -35,8 +41,19 @@ returns-3 : tie.Need-returns-3
 unfolding moveField
 returns-3 c =
     let x = c .before .before .before in
+    let i = x .before in
     sym (ap (λ (a : Chosen). fieldOf (chosen a)) (c .before .answer .given .1)) ∙ ap fieldOf (x .best-move .ensures)
-    ∙ shown-here (x .before .before .before .before .args .rings) (x .before .if1 .left) _
+    ∙ shown-here (i .before .before .before .before .args .rings) _ (sym (i .if1 .left) ∙ i .before .is-absent .ensures)
 
 pub move-of-spec : {M : Type 1} → statement M
-move-of-spec = tie.close (tie.spec returns best-move-requires enum-known-answer enum-told returns-2 cast-t7 returns-3)
+move-of-spec =
+    tie.close
+    (tie.spec
+    is-absent-requires
+    returns
+    best-move-requires
+    enum-known-answer
+    enum-told
+    returns-2
+    cast-t7
+    returns-3)
