@@ -102,11 +102,11 @@ module _ (tablebase : List ℕ) where
 
   module _ {block kept₀ out₀ : List ℕ} {i : ℕ} {kept out : List ℕ} {used : ℕ} (w : Feeding block kept₀ out₀ i kept out used) where
     -- a byte more
-    pub feeding-more : (kept′ out′ : List ℕ) (used′ : ℕ) → i < length block → kept′ ≡ left kept (getD block i 0 ∷ []) → used′ ≤ used + 126
-        → used′ ≡ used + length (answers tablebase (ended kept (getD block i 0 ∷ [])))
-        → out′ ≡ sets out used (answers tablebase (ended kept (getD block i 0 ∷ [])))
+    pub feeding-more : (kept′ out′ : List ℕ) (used′ : ℕ) → i < length block → kept′ ≡ left kept (getD block i 0 ∷ [])
+        → (used′ ≡ used + length (answers tablebase (ended kept (getD block i 0 ∷ []))))
+        × ((used′ ≤ used + 126) × (out′ ≡ sets out used (answers tablebase (ended kept (getD block i 0 ∷ [])))))
         → Feeding block kept₀ out₀ (i + 1) kept′ out′ used′
-    feeding-more kept′ out′ used′ l e b u o =
+    feeding-more kept′ out′ used′ l e (u, (b, o)) =
         let c : List ℕ = getD block i 0 ∷ [] in
         let k : suc i ≡ i + 1 = omega arith in
         let d : drop i block ≡ c ++ drop (i + 1) block = drop-cons block i 0 l ∙ ap (λ (j : ℕ). getD block i 0 ∷ drop j block) k in

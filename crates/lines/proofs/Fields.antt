@@ -1,7 +1,7 @@
 -- The fields of a board's line, by what the calls answer, and a line that was written. Assumes nothing.
 use mathlib.Core.Path.{_≡_, refl, sym, subst, _∙_}
 use mathlib.Core.Bool.{Bool, true, false, not, false≢true}
-use mathlib.Core.List.{List, [], _∷_}
+use mathlib.Core.List.{List}
 use Prim.Native.Nat.{ℕ, _+_, _≤_}
 use lib.Dec.{eqb}
 use lib.ListN.{length}
@@ -10,12 +10,12 @@ use Rattle.sets.specs.Sets.{members}
 use Rattle.board.specs.declared.position.Position.{Position}
 use Rattle.board.specs.Board.{count, positionOf}
 use Rattle.board.proofs.Sides.{mover-stones, opponent-stones}
-use Rattle.refusals.specs.Answers.{Answer, accepted, refused, value}
+use Rattle.refusals.specs.Answers.{value}
 use Rattle.morris.specs.RankCall.{rankCall}
 use Rattle.text.specs.declared.Field.{Field}
 use Rattle.text.specs.declared.Field.the-variants.{Absent}
 use Rattle.text.specs.Text.{positionLine}
-use Rattle.lines.specs.Answers.{fieldOf, onOneRing, entryField, moveField, boardLine}
+use Rattle.lines.specs.Answers.{onOneRing, entryField, moveField, boardLine}
 
 -- what is shown on one ring, and on more
 module _ (rings : ℕ) (field : Field) where

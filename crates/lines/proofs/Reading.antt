@@ -1,12 +1,12 @@
 -- The answer to a line by what reading it answers: turned back, or the board that the two sets stand for. And over 64 characters the first 65 decide.
 -- Assumes nothing.
-use mathlib.Core.Path.{_≡_, refl, sym, ap, ap₂, _∙_, subst}
-use mathlib.Core.Bool.{Bool, true, false, _||_}
+use mathlib.Core.Path.{_≡_, refl, sym, ap, ap₂, _∙_}
+use mathlib.Core.Bool.{Bool, true, false}
 use mathlib.Core.List.{List, [], _∷_}
 use Prim.Native.Nat.{ℕ, zero, suc, _*_, _≤_, _<_}
 use native.Mathlib.Nat.{le-of-suc-le-suc}
 use native.Mathlib.Omega.{arith}
-use lib.Dec.{eqb, ltb}
+use lib.Dec.{ltb}
 use lib.ListN.{length, take, length-take}
 use lib.Seq.{take-all}
 use borrow.Author.Tests.{ltb-true, ltb-false, lt-ltb, ne-eqb}
@@ -17,7 +17,7 @@ use Rattle.board.proofs.Sides.{position-sides}
 use Rattle.frames.specs.Frame.{frameWrong, ringsIn, boardIn}
 use Rattle.refusals.specs.Refusals.{refusal}
 use Rattle.refusals.specs.Conditions.{readPicks}
-use Rattle.refusals.specs.Answers.{Answer, accepted, refused}
+use Rattle.refusals.specs.Answers.{accepted, refused}
 use Rattle.refusals.proofs.Answering.{accepted-values}
 use Rattle.refusals.proofs.Conditions.{Accepted, accepted-board}
 use Rattle.refusals.proofs.FrameConditions.{board-accepted}
@@ -66,7 +66,8 @@ module _ (tablebase line : List ℕ) where
         take-board (8 * rings) (record { mover = m; opponent = o }) (omega (arith, few-rings))
         ∙ ap₂ (λ (r : ℕ) (p : Position). boardOf (8 * r) p) same-rings same-position ∙ position-back (ringsIn line) (boardIn line) is-board
 
-    pub line-board : (b : List ℕ) → b ≡ take (8 * rings) (boardOf 24 (record { mover = m; opponent = o })) → boardLine tablebase rings b ≡ answerOf tablebase line
+    pub line-board : (b : List ℕ) → b ≡ take (8 * rings) (boardOf 24 (record { mover = m; opponent = o }))
+        → boardLine tablebase rings b ≡ answerOf tablebase line
     unfolding answerOf
     line-board b q = ap₂ (boardLine tablebase) same-rings (q ∙ frame-board) ∙ ap (frameLine tablebase line) e
 
@@ -80,7 +81,8 @@ pub first-decide : (tablebase line : List ℕ) → answerOf tablebase (take most
 unfolding answerOf
 first-decide tablebase line = go (ltb mostKept (length line)) refl
   where
-    go : (t : Bool) → ltb mostKept (length line) ≡ t → frameLine tablebase (take mostKept line) (readFrameCall (take mostKept line)) ≡ frameLine tablebase line (readFrameCall line)
+    go : (t : Bool) → ltb mostKept (length line) ≡ t
+        → frameLine tablebase (take mostKept line) (readFrameCall (take mostKept line)) ≡ frameLine tablebase line (readFrameCall line)
     go true e =
         let l = ltb-true mostKept (length line) e in
         ap (frameLine tablebase (take mostKept line)) (long-refused tablebase (take mostKept line) (omega (arith, length-take mostKept line)))

@@ -12,18 +12,9 @@ use borrow.Author.Tests.{ltb-true, ltb-false}
 use Rattle.text.specs.Text.{lineFeed}
 use Rattle.lines.specs.Lines.{before, linesOf, mostKept, keep, ended, left, last}
 use Rattle.lines.specs.Answers.{answers}
+use Rattle.lines.specs.Session.{joined, written}
 use Rattle.lines.proofs.Reading.{first-decide}
 use Rattle.lines.proofs.Blocks.{ended-append, left-append, answers-append}
-
--- what is written for blocks: what `feed` writes for each, then what `finish` writes for what is kept
-unfoldable pub written : List ℕ → List ℕ → List (List ℕ) → List ℕ
-written tablebase kept [] = answers tablebase (last kept)
-written tablebase kept (b ∷ bs) = answers tablebase (ended kept b) ++ written tablebase (left kept b) bs
-
--- the input that comes in blocks
-unfoldable pub joined : List (List ℕ) → List ℕ
-joined [] = []
-joined (b ∷ bs) = b ++ joined bs
 
 -- the same with whole lines
 unfoldable endedWhole : List ℕ → List ℕ → List (List ℕ)

@@ -1,6 +1,6 @@
 -- The bytes that answer a line (document 01, "Frames"): "The fields are rings, the two stone counts, rank, entry and best move. Entry and move are `-`
 -- on two and three rings; move is `-` for a blocked mover." Each field is what the public call answers. Assumes nothing.
-use mathlib.Core.Bool.{Bool, true, false}
+use mathlib.Core.Bool.{true, false}
 use mathlib.Core.List.{List, [], _++_, _∷_}
 use Prim.Native.Nat.{ℕ}
 use lib.Dec.{eqb}

@@ -18,7 +18,8 @@ pub struct Fed {
 // One byte more of a line: the first 65 are kept.
 fn keep(held: &mut [u8], kept: usize, c: u8) -> usize
     requires { ⌜ (length (now held) ≡ 65) × (kept ≤ 65) ⌝ }
-    ensures { λ r. ⌜ (r ≤ 65) × (length (now (held .exit)) ≡ 65) × (take r (now (held .exit)) ≡ Lines·keep (take kept (now (held .entry))) c) ⌝ }
+    ensures held { λ r. ⌜ (length (now (held .exit)) ≡ 65) × (r ≤ 65) ⌝ }
+    ensures kept { λ r. ⌜ take r (now (held .exit)) ≡ Lines·keep (take kept (now (held .entry))) c ⌝ }
 {
     if kept < 65 {
         held[kept] = c;
@@ -29,9 +30,13 @@ fn keep(held: &mut [u8], kept: usize, c: u8) -> usize
 
 // One byte of input.
 fn step(tablebase: &[u16], c: u8, held: &mut [u8], kept: usize, out: &mut [u8], used: usize) -> Fed
-    requires { ⌜ (length (now held) ≡ 65) × (kept ≤ 65) × (used + 126 ≤ length (now out)) ⌝ }
-    ensures held { λ r. ⌜ (r .kept ≤ 65) × (length (now (held .exit)) ≡ 65) × (take (r .kept) (now (held .exit)) ≡ left (take kept (now (held .entry))) (c ∷ [])) ⌝ }
-    ensures out { λ r. ⌜ (r .used ≤ used + 126) × (r .used ≡ used + length (answers (now (tablebase .entry)) (ended (take kept (now (held .entry))) (c ∷ [])))) × (now (out .exit) ≡ sets (now (out .entry)) used (answers (now (tablebase .entry)) (ended (take kept (now (held .entry))) (c ∷ [])))) ⌝ }
+    requires { ⌜ (length (now held) ≡ 65) × (kept ≤ 65) ⌝ }
+    requires { ⌜ used + 126 ≤ length (now out) ⌝ }
+    ensures held { λ r. ⌜ (length (now (held .exit)) ≡ 65) × (r .kept ≤ 65) ⌝ }
+    ensures kept { λ r. ⌜ take (r .kept) (now (held .exit)) ≡ left (take kept (now (held .entry))) (c ∷ []) ⌝ }
+    ensures place { λ r. ⌜ r .used ≡ used + length (answers (now (tablebase .entry)) (ended (take kept (now (held .entry))) (c ∷ []))) ⌝ }
+    ensures bound { λ r. ⌜ r .used ≤ used + 126 ⌝ }
+    ensures buffer { λ _. ⌜ now (out .exit) ≡ sets (now (out .entry)) used (answers (now (tablebase .entry)) (ended (take kept (now (held .entry))) (c ∷ []))) ⌝ }
 {
     if c == b'\n' {
         let next = answering::answer_at(tablebase, &held[..kept], out, used);
@@ -46,9 +51,13 @@ fn step(tablebase: &[u16], c: u8, held: &mut [u8], kept: usize, out: &mut [u8], 
 
 // A block of input: the lines that it ends are answered at the start of out, and what it leaves is kept.
 pub fn feed(tablebase: &[u16], block: &[u8], held: &mut [u8], kept: usize, out: &mut [u8]) -> Fed
-    requires { ⌜ (length (now held) ≡ 65) × (kept ≤ 65) × (126 * length (now block) ≤ length (now out)) ⌝ }
-    ensures held { λ r. ⌜ (r .kept ≤ 65) × (length (now (held .exit)) ≡ 65) × (take (r .kept) (now (held .exit)) ≡ left (take kept (now (held .entry))) (now (block .entry))) ⌝ }
-    ensures out { λ r. ⌜ Counts (r .used) (now (out .exit)) × (r .used ≡ length (answers (now (tablebase .entry)) (ended (take kept (now (held .entry))) (now (block .entry))))) × (now (out .exit) ≡ sets (now (out .entry)) 0 (answers (now (tablebase .entry)) (ended (take kept (now (held .entry))) (now (block .entry))))) ⌝ }
+    requires { ⌜ (length (now held) ≡ 65) × (kept ≤ 65) ⌝ }
+    requires { ⌜ 126 * length (now block) ≤ length (now out) ⌝ }
+    ensures held { λ r. ⌜ (length (now (held .exit)) ≡ 65) × (r .kept ≤ 65) ⌝ }
+    ensures kept { λ r. ⌜ take (r .kept) (now (held .exit)) ≡ left (take kept (now (held .entry))) (now (block .entry)) ⌝ }
+    ensures place { λ r. ⌜ r .used ≡ length (answers (now (tablebase .entry)) (ended (take kept (now (held .entry))) (now (block .entry)))) ⌝ }
+    ensures bound { λ r. ⌜ Counts (r .used) (now (out .exit)) ⌝ }
+    ensures buffer { λ _. ⌜ now (out .exit) ≡ sets (now (out .entry)) 0 (answers (now (tablebase .entry)) (ended (take kept (now (held .entry))) (now (block .entry)))) ⌝ }
 {
     let mut count = kept;
     let mut used = 0;
@@ -64,8 +73,11 @@ pub fn feed(tablebase: &[u16], block: &[u8], held: &mut [u8], kept: usize, out: 
 
 // The end of the input: what is kept is the last line, unless it is nothing.
 pub fn finish(tablebase: &[u16], held: &[u8], kept: usize, out: &mut [u8]) -> usize
-    requires { ⌜ (length (now held) ≡ 65) × (kept ≤ 65) × (126 ≤ length (now out)) ⌝ }
-    ensures { λ r. ⌜ Counts r (now (out .exit)) × (r ≡ length (answers (now (tablebase .entry)) (last (take kept (now (held .entry)))))) × (now (out .exit) ≡ sets (now (out .entry)) 0 (answers (now (tablebase .entry)) (last (take kept (now (held .entry)))))) ⌝ }
+    requires { ⌜ (length (now held) ≡ 65) × (kept ≤ 65) ⌝ }
+    requires { ⌜ 126 ≤ length (now out) ⌝ }
+    ensures place { λ r. ⌜ r ≡ length (answers (now (tablebase .entry)) (last (take kept (now (held .entry))))) ⌝ }
+    ensures bound { λ r. ⌜ Counts r (now (out .exit)) ⌝ }
+    ensures buffer { λ _. ⌜ now (out .exit) ≡ sets (now (out .entry)) 0 (answers (now (tablebase .entry)) (last (take kept (now (held .entry))))) ⌝ }
 {
     if kept == 0 {
         return 0;

@@ -22,9 +22,12 @@ fn answer_block(
     kept: usize,
     out: &mut [u8],
 ) -> After
-    requires { ⌜ (length (now held) ≡ 65) × (kept ≤ 65) × (126 * length (now block) ≤ length (now out)) ⌝ }
-    ensures { λ r. ⌜ r .kept ≤ 65 ⌝ }
-    ensures { λ _. ⌜ (length (now (block .exit)) ≡ length (now (block .entry))) × (length (now (held .exit)) ≡ length (now (held .entry))) × (length (now (out .exit)) ≡ length (now (out .entry))) ⌝ }
+    requires { ⌜ (length (now held) ≡ 65) × (kept ≤ 65) ⌝ }
+    requires { ⌜ 126 * length (now block) ≤ length (now out) ⌝ }
+    ensures kept { λ r. ⌜ r .kept ≤ 65 ⌝ }
+    ensures block { λ _. ⌜ length (now (block .exit)) ≡ length (now (block .entry)) ⌝ }
+    ensures held { λ _. ⌜ length (now (held .exit)) ≡ length (now (held .entry)) ⌝ }
+    ensures out { λ _. ⌜ length (now (out .exit)) ≡ length (now (out .entry)) ⌝ }
 {
     let got = libc::read(STDIN_FILENO, block);
     if got <= 0 {
@@ -42,7 +45,8 @@ fn answer_block(
 
 // At the end of the input the last line is answered, where it has no line feed.
 fn answer_last(tablebase: &[u16], held: &[u8], kept: usize, out: &mut [u8])
-    requires { ⌜ (length (now held) ≡ 65) × (kept ≤ 65) × (126 ≤ length (now out)) ⌝ }
+    requires { ⌜ (length (now held) ≡ 65) × (kept ≤ 65) ⌝ }
+    requires { ⌜ 126 ≤ length (now out) ⌝ }
     ensures { λ _. ⌜ length (now (out .exit)) ≡ length (now (out .entry)) ⌝ }
 {
     let used = lines::finish(tablebase, held, kept, out);
@@ -59,7 +63,8 @@ fn blocks_left(blocks: u64, more: bool) -> u64
 
 // All of the input. A loop has to end, and nothing says that the input does: the blocks are counted down from the largest number.
 fn answer_input(tablebase: &[u16], block: &mut [u8], held: &mut [u8], out: &mut [u8])
-    requires { ⌜ (length (now held) ≡ 65) × (126 ≤ length (now out)) × (126 * length (now block) ≤ length (now out)) ⌝ }
+    requires { ⌜ length (now held) ≡ 65 ⌝ }
+    requires { ⌜ (126 ≤ length (now out)) × (126 * length (now block) ≤ length (now out)) ⌝ }
 {
     let mut kept: usize = 0;
     let mut blocks = u64::MAX;
@@ -82,7 +87,8 @@ fn write_header(out: &mut [u8])
 
 // The session in lent buffers. Were the fill turned back, no entry would be given out: every entry would be void, and entry and move `-`.
 fn serve(tablebase: &mut [u16], block: &mut [u8], held: &mut [u8], out: &mut [u8])
-    requires { ⌜ (length (now held) ≡ 65) × (126 ≤ length (now out)) × (126 * length (now block) ≤ length (now out)) ⌝ }
+    requires { ⌜ length (now held) ≡ 65 ⌝ }
+    requires { ⌜ (126 ≤ length (now out)) × (126 * length (now block) ≤ length (now out)) ⌝ }
 {
     morris::fill(1, lines::LARGEST_COUNT, LIMIT, tablebase);
     write_header(out);

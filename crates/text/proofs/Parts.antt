@@ -1,5 +1,5 @@
 -- Bytes written one after the other: one byte of a loop, one part of a line. Assumes nothing.
-use mathlib.Core.Path.{_≡_, refl, sym, ap, ap₂, _∙_}
+use mathlib.Core.Path.{_≡_, sym, ap, ap₂, _∙_}
 use mathlib.Core.List.{List, [], _∷_, _++_}
 use Prim.Native.Nat.{ℕ, suc, _+_, _<_}
 use native.Mathlib.Omega.{arith}
@@ -22,7 +22,8 @@ sets-step l xs at i h =
 
 module _ {old : List ℕ} {start : ℕ} {whole l : List ℕ} {k : ℕ} {l′ : List ℕ} {k′ : ℕ} where
   -- a part is written, and the rest is left
-  pub part-written : (xs rest : List ℕ) → Writing old start whole l k (xs ++ rest) → k′ ≡ k + length xs → l′ ≡ sets l k xs → Writing old start whole l′ k′ rest
+  pub part-written : (xs rest : List ℕ) → Writing old start whole l k (xs ++ rest) → k′ ≡ k + length xs → l′ ≡ sets l k xs
+      → Writing old start whole l′ k′ rest
   part-written xs rest w e d = record {
     same = ap₂ (λ (x : List ℕ) (y : ℕ). sets x y rest) d e ∙ sym (sets-append l k xs rest) ∙ w .same;
     place = omega (arith, w .place, length-append xs rest);
@@ -30,7 +31,8 @@ module _ {old : List ℕ} {start : ℕ} {whole l : List ℕ} {k : ℕ} {l′ : L
   }
 
   -- the last part is written
-  pub last-written : (xs : List ℕ) → Writing old start whole l k xs → k′ ≡ k + length xs → l′ ≡ sets l k xs → (k′ ≡ start + length whole) × (l′ ≡ sets old start whole)
+  pub last-written : (xs : List ℕ) → Writing old start whole l k xs → k′ ≡ k + length xs → l′ ≡ sets l k xs
+      → (k′ ≡ start + length whole) × (l′ ≡ sets old start whole)
   last-written xs w e d = (e ∙ w .place, d ∙ w .same)
 
 -- the two items: of a number, and of none

@@ -17,7 +17,7 @@ loop-holds : tie.Need-loop-holds Inv-loop μ-loop
 loop-holds c = (refl, refl, refl, omega arith)
 
 answer-block-requires : tie.Need-answer-block-requires Inv-loop μ-loop
-answer-block-requires c κs = (omega arith, omega arith, omega arith)
+answer-block-requires c κs = ((omega arith, omega arith), omega arith)
 
 blocks-left-requires : tie.Need-blocks-left-requires Inv-loop μ-loop
 blocks-left-requires c κs = omega arith
@@ -30,10 +30,10 @@ loop-again c =
     let x = c .before .before .before .before .before .before .before in
     let e = x .answer-block .ensures in
     let w = x .before .before .before .before .before .loop .inv in
-    (e .1 .0 ∙ w .0, e .1 .1 ∙ w .1, e .1 .2 ∙ w .2, e .0)
+    (e .1 .0 ∙ w .0, e .1 .1 .0 ∙ w .1, e .1 .1 .1 ∙ w .2, e .0)
 
 answer-last-requires : tie.Need-answer-last-requires Inv-loop μ-loop
-answer-last-requires c κs = (omega arith, omega arith, omega arith)
+answer-last-requires c κs = ((omega arith, omega arith), omega arith)
 
 same-length : tie.Need-same-length Inv-loop μ-loop
 same-length c = c .before .before .before .before .before .before .loop .inv .0

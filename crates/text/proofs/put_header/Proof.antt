@@ -23,7 +23,8 @@ unfolding header
 returns c =
     let x = c .before .before in
     let p = x .put .ensures in
-    let l : x .put .result ≤ length (x .put .last .0) = omega (arith, p .0, ap length (p .1), length-sets (x .before .before .before .before .args .out .now) 0 header) in
+    let l : x .put .result ≤ length (x .put .last .0) =
+    omega (arith, p .0, ap length (p .1), length-sets (x .before .before .before .before .args .out .now) 0 header) in
     (omega (arith, p .0), ((l, sym (length-take-le _ _ l)), p .1))
 
 pub put-header-spec : {M : Type 1} → statement M

@@ -1,12 +1,10 @@
 -- `lines::answering::answer_at` meets its contract: the refusal of the frame, or the line of the board that its sets stand for. Assumes nothing.
 use mathlib.Core.Path.{_≡_, sym, ap, _∙_}
-use mathlib.Core.List.{List}
-use Prim.Native.Nat.{ℕ, _+_, _*_, _≤_}
+use Prim.Native.Nat.{_*_, _≤_}
 use native.Mathlib.Omega.{arith}
 use lib.ListN.{length, take, length-take}
-use lib.Seq.{sets, length-take-le}
+use lib.Seq.{length-take-le}
 use borrow.Author.Needs.{needs}
-use Rattle.board.specs.Board.{boardOf}
 use Rattle.board.proofs.Sides.{length-board}
 use Rattle.refusals.specs.Answers.{number}
 use Rattle.morris.specs.declared.Frame.{Frame}

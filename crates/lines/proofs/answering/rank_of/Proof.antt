@@ -1,5 +1,5 @@
 -- `lines::answering::rank_of` meets its contract: the value of the call's answer. Assumes nothing.
-use mathlib.Core.Path.{_≡_, sym, ap, _∙_}
+use mathlib.Core.Path.{sym, ap, _∙_}
 use borrow.Author.Needs.{needs}
 use Rattle.refusals.specs.Answers.{Answer, value}
 use Rattle.morris.specs.declared.Ranked.{Ranked}

@@ -18,7 +18,7 @@ abbrev μ-loop : tie.MeasureT-loop
 loop-holds : tie.Need-loop-holds Inv-loop μ-loop
 loop-holds c =
     let s = c .before .before .before .before in
-    (omega arith, s .pre .0, s .pre .1, feeding-none (s .args .tablebase .now) (s .args .block .now) _ (s .args .out .now))
+    (omega arith, s .pre .0 .0, s .pre .0 .1, feeding-none (s .args .tablebase .now) (s .args .block .now) _ (s .args .out .now))
 
 shared-slice-read-step : tie.Need-shared-slice-read-step Inv-loop μ-loop
 shared-slice-read-step c = omega arith
@@ -27,7 +27,7 @@ step-requires : tie.Need-step-requires Inv-loop μ-loop
 step-requires c κs =
     let x = c .before .before .before .before in
     let w = x .loop .inv .3 in
-    (x .loop .inv .1, x .loop .inv .2, omega (arith, w .within, w .same))
+    ((x .loop .inv .1, x .loop .inv .2), omega (arith, w .within, w .same))
 
 add-i : tie.Need-add-i Inv-loop μ-loop
 add-i c = omega arith
@@ -40,13 +40,13 @@ loop-again c =
     let e = c .before .before .before .before .step .ensures in
     let x = c .before .before .before .before .before .before .before .before .before in (
       omega arith,
-      e .0 .1,
       e .0 .0,
-      feeding-more (x .before .before .before .before .before .args .tablebase .now) (x .loop .inv .3) _ _ _ (omega arith) (e .0 .2) (e .1 .0) (e .1 .1) (e .1 .2),
+      e .0 .1,
+      feeding-more (x .before .before .before .before .before .args .tablebase .now) (x .loop .inv .3) _ _ _ (omega arith) (e .1 .0) (e .1 .1),
     )
 
 same-length : tie.Need-same-length Inv-loop μ-loop
-same-length c = c .before .loop .inv .1 ∙ sym (c .before .before .before .before .before .before .pre .0)
+same-length c = c .before .loop .inv .1 ∙ sym (c .before .before .before .before .before .before .pre .0 .0)
 
 same-length-2 : tie.Need-same-length-2 Inv-loop μ-loop
 same-length-2 c = c .before .loop .inv .3 .same
@@ -57,7 +57,7 @@ returns c =
     let w = x .loop .inv .3 in
     let f = feeding-all (x .before .before .before .before .before .args .tablebase .now) w (omega arith) in
     let l : x .loop .used ≤ length (x .loop .out) = omega (arith, w .within, w .same) in
-    ((x .loop .inv .2, x .loop .inv .1, f .0), ((l, sym (length-take-le (x .loop .used) (x .loop .out) l)), f .1, f .2))
+    ((x .loop .inv .1, x .loop .inv .2), (f .0, (f .1, ((l, sym (length-take-le (x .loop .used) (x .loop .out) l)), f .2))))
 
 pub feed-spec : {M : Type 1} → statement M
 feed-spec =

@@ -20,12 +20,12 @@ returns : tie.Need-returns
 returns c =
     let a = c .before .args in
     let p = c .before .pre .0 in
-    (omega arith, length-set (a .held .now) (a .kept) (a .c) ∙ p, keep-room (a .held .now) (a .kept) (a .c) (c .if1 .taken) p)
+    ((length-set (a .held .now) (a .kept) (a .c) ∙ p, omega arith), keep-room (a .held .now) (a .kept) (a .c) (c .if1 .taken) p)
 
 returns-2 : tie.Need-returns-2
 returns-2 c =
     let a = c .before .args in
-    (omega arith, c .before .pre .0, keep-full (a .held .now) (a .kept) (a .c) (omega arith) (c .before .pre .0))
+    ((c .before .pre .0, omega arith), keep-full (a .held .now) (a .kept) (a .c) (omega arith) (c .before .pre .0))
 
 pub keep-spec : {M : Type 1} → statement M
 keep-spec = tie.close (tie.spec slice-write-held add-result same-length returns returns-2)

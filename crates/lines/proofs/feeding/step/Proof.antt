@@ -1,14 +1,14 @@
 -- `lines::feeding::step` meets its contract: a line feed has the line answered, another byte is kept. Assumes nothing.
-use mathlib.Core.Path.{_≡_, sym, ap, _∙_}
-use mathlib.Core.List.{List, [], _∷_}
-use Prim.Native.Nat.{ℕ, _+_}
+use mathlib.Core.Path.{_≡_, refl, sym, ap, _∙_}
+use mathlib.Core.List.{[], _∷_}
 use native.Mathlib.Nat.{add-zero}
 use native.Mathlib.Omega.{arith}
-use lib.ListN.{length, take}
-use lib.Seq.{sets, length-take-le}
+use lib.ListN.{take}
+use lib.Seq.{length-take-le}
 use borrow.Author.Needs.{needs}
 use Rattle.lines.specs.Lines.{ended}
 use Rattle.lines.specs.Answers.{answerOf, answers}
+use Rattle.lines.proofs.Fields.{same-written}
 use Rattle.lines.proofs.Blocks.{byte-ends, byte-kept, answers-one, answers-none}
 use Rattle.lines.proofs.feeding.step.Statement.{statement}
 use Rattle.lines.proofs.feeding.step.Tie as tie
@@ -38,10 +38,7 @@ returns c =
     let f = byte-ends k (a .c) (t .if1 .taken) in
     let e : answerOf (a .tablebase .now) k ≡ answers (a .tablebase .now) (ended k (a .c ∷ [])) =
     sym (ap (answers (a .tablebase .now)) (f .0) ∙ answers-one (a .tablebase .now) k) in
-    let p = x .answer-at .ensures in (
-      (omega arith, s .pre .0, sym (f .1)),
-      (p .1 .0, p .0 ∙ ap (λ (l : List ℕ). a .used + length l) e, p .1 .1 ∙ ap (sets (a .out .now) (a .used)) e),
-    )
+    ((s .pre .0 .0, omega arith), (sym (f .1), same-written (a .used) _ (a .out .now) _ e (x .answer-at .ensures)))
 
 keep-requires : tie.Need-keep-requires
 keep-requires c κs = search needs
@@ -58,10 +55,8 @@ returns-2 c =
     let k = take (a .kept) (a .held .now) in
     let f = byte-kept k (a .c) (t .if1 .left) in
     let e : [] ≡ answers (a .tablebase .now) (ended k (a .c ∷ [])) = sym (ap (answers (a .tablebase .now)) (f .0) ∙ answers-none (a .tablebase .now)) in
-    let p = x .keep .ensures in (
-      (p .0, p .1, p .2 ∙ sym (f .1)),
-      (omega arith, sym (add-zero (a .used)) ∙ ap (λ (l : List ℕ). a .used + length l) e, ap (sets (a .out .now) (a .used)) e),
-    )
+    let p = x .keep .ensures in
+    (p .0, (p .1 ∙ sym (f .1), same-written (a .used) (a .used) (a .out .now) (a .out .now) e (sym (add-zero (a .used)), (omega arith, refl))))
 
 pub step-spec : {M : Type 1} → statement M
 step-spec =
