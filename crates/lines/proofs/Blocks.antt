@@ -10,7 +10,7 @@ use lib.ListN.{length, getD, drop, take, set, length-append, length-take}
 use lib.Seq.{drop-cons, drop-length, sets, length-sets, take-all, take-suc-set, take-append-le}
 use borrow.Author.Tests.{eq-eqb, ne-eqb}
 use Rattle.lists.proofs.Writing.{sets-append}
-use Rattle.text.specs.Text.{lineFeed}
+use Rattle.text.specs.Text.{lineFeed, mostBytes}
 use Rattle.lines.specs.Lines.{mostKept, keep, ended, left, last}
 use Rattle.lines.specs.Answers.{answerOf, answers}
 
@@ -94,7 +94,7 @@ module _ (tablebase : List ℕ) where
     pub rest : left kept (drop i block) ≡ left kept₀ block
     pub done : sets out used (answers tablebase (ended kept (drop i block))) ≡ sets out₀ 0 (answers tablebase (ended kept₀ block))
     pub place : used + length (answers tablebase (ended kept (drop i block))) ≡ length (answers tablebase (ended kept₀ block))
-    pub within : used ≤ 126 * i
+    pub within : used ≤ mostBytes * i
     pub same : length out ≡ length out₀
 
   pub feeding-none : (block kept out : List ℕ) → Feeding block kept out 0 kept out 0
@@ -104,7 +104,7 @@ module _ (tablebase : List ℕ) where
     -- a byte more
     pub feeding-more : (kept′ out′ : List ℕ) (used′ : ℕ) → i < length block → kept′ ≡ left kept (getD block i 0 ∷ [])
         → (used′ ≡ used + length (answers tablebase (ended kept (getD block i 0 ∷ []))))
-        × ((used′ ≤ used + 126) × (out′ ≡ sets out used (answers tablebase (ended kept (getD block i 0 ∷ [])))))
+        × ((used′ ≤ used + mostBytes) × (out′ ≡ sets out used (answers tablebase (ended kept (getD block i 0 ∷ [])))))
         → Feeding block kept₀ out₀ (i + 1) kept′ out′ used′
     feeding-more kept′ out′ used′ l e (u, (b, o)) =
         let c : List ℕ = getD block i 0 ∷ [] in

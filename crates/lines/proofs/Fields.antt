@@ -14,7 +14,7 @@ use Rattle.refusals.specs.Answers.{value}
 use Rattle.morris.specs.RankCall.{rankCall}
 use Rattle.text.specs.declared.Field.{Field}
 use Rattle.text.specs.declared.Field.the-variants.{Absent}
-use Rattle.text.specs.Text.{positionLine}
+use Rattle.text.specs.Text.{positionLine, mostBytes}
 use Rattle.lines.specs.Answers.{onOneRing, entryField, moveField, boardLine}
 
 -- what is shown on one ring, and on more
@@ -45,6 +45,6 @@ board-line tablebase rings b l p q m o r entry move em eo er ee ev =
     rw (x, y, er, ee, ev)
 
 -- the same bytes were written
-pub same-written : (at r : ℕ) (old new : List ℕ) {xs ys : List ℕ} → xs ≡ ys → (r ≡ at + length xs) × ((r ≤ at + 126) × (new ≡ sets old at xs))
-    → (r ≡ at + length ys) × ((r ≤ at + 126) × (new ≡ sets old at ys))
-same-written at r old new e w = subst (λ (l : List ℕ). (r ≡ at + length l) × ((r ≤ at + 126) × (new ≡ sets old at l))) e w
+pub same-written : (at r : ℕ) (old new : List ℕ) {xs ys : List ℕ} → xs ≡ ys → (r ≡ at + length xs) × ((r ≤ at + mostBytes) × (new ≡ sets old at xs))
+    → (r ≡ at + length ys) × ((r ≤ at + mostBytes) × (new ≡ sets old at ys))
+same-written at r old new e w = subst (λ (l : List ℕ). (r ≡ at + length l) × ((r ≤ at + mostBytes) × (new ≡ sets old at l))) e w

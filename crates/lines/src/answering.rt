@@ -7,6 +7,7 @@ ghost use lib.ListN.{length};
 ghost use lib.Seq.{sets};
 ghost use Rattle.refusals.specs.Answers.{value};
 ghost use Rattle.morris.specs.RankCall.{rankCall};
+ghost use Rattle.text.specs.Text.{mostBytes};
 ghost use Rattle.lines.specs.Answers.{entryField, moveField, boardLine, answerOf};
 use board::Position;
 use morris::Chosen;
@@ -67,9 +68,9 @@ fn move_of(tablebase: &[u16], rings: u8, board: &[u8]) -> Field
 // Writes the line of a board.
 fn put_board(tablebase: &[u16], rings: u8, board: &[u8], out: &mut [u8], at: usize) -> usize
     requires { ⌜ length (now board) ≤ 24 ⌝ }
-    requires { ⌜ at + 126 ≤ length (now out) ⌝ }
+    requires { ⌜ at + mostBytes ≤ length (now out) ⌝ }
     ensures place { λ r. ⌜ r ≡ at + length (boardLine (now (tablebase .entry)) rings (now (board .entry))) ⌝ }
-    ensures bound { λ r. ⌜ r ≤ at + 126 ⌝ }
+    ensures bound { λ r. ⌜ r ≤ at + mostBytes ⌝ }
     ensures buffer { λ _. ⌜ now (out .exit) ≡ sets (now (out .entry)) at (boardLine (now (tablebase .entry)) rings (now (board .entry))) ⌝ }
 {
     let position = board::position_of(board);
@@ -92,9 +93,9 @@ fn put_board(tablebase: &[u16], rings: u8, board: &[u8], out: &mut [u8], at: usi
 
 // Writes the answer to a line.
 pub fn answer_at(tablebase: &[u16], line: &[u8], out: &mut [u8], at: usize) -> usize
-    requires { ⌜ at + 126 ≤ length (now out) ⌝ }
+    requires { ⌜ at + mostBytes ≤ length (now out) ⌝ }
     ensures place { λ r. ⌜ r ≡ at + length (answerOf (now (tablebase .entry)) (now (line .entry))) ⌝ }
-    ensures bound { λ r. ⌜ r ≤ at + 126 ⌝ }
+    ensures bound { λ r. ⌜ r ≤ at + mostBytes ⌝ }
     ensures buffer { λ _. ⌜ now (out .exit) ≡ sets (now (out .entry)) at (answerOf (now (tablebase .entry)) (now (line .entry))) ⌝ }
 {
     let read = morris::read_frame(line);

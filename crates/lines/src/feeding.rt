@@ -5,9 +5,13 @@ ghost use Prim.Native.Nat.{_+_, _*_, _≤_};
 ghost use lib.ListN.{length, take};
 ghost use lib.Seq.{sets};
 ghost use Rattle.io.specs.Counts.{Counts};
-ghost use Rattle.lines.specs.Lines.{keep as Lines·keep, ended, left, last};
+ghost use Rattle.text.specs.Text.{mostBytes};
+ghost use Rattle.lines.specs.Lines.{mostKept, keep as Lines·keep, ended, left, last};
 ghost use Rattle.lines.specs.Answers.{answers};
 use super::answering;
+
+// How many bytes of a line are kept.
+pub const MOST_KEPT: usize = 65;
 
 // How many bytes are kept of the line that is not yet ended, and how many bytes of answers were written.
 pub struct Fed {
@@ -17,11 +21,11 @@ pub struct Fed {
 
 // One byte more of a line: the first 65 are kept.
 fn keep(held: &mut [u8], kept: usize, c: u8) -> usize
-    requires { ⌜ (length (now held) ≡ 65) × (kept ≤ 65) ⌝ }
-    ensures held { λ r. ⌜ (length (now (held .exit)) ≡ 65) × (r ≤ 65) ⌝ }
+    requires { ⌜ (length (now held) ≡ mostKept) × (kept ≤ mostKept) ⌝ }
+    ensures held { λ r. ⌜ (length (now (held .exit)) ≡ mostKept) × (r ≤ mostKept) ⌝ }
     ensures kept { λ r. ⌜ take r (now (held .exit)) ≡ Lines·keep (take kept (now (held .entry))) c ⌝ }
 {
-    if kept < 65 {
+    if kept < MOST_KEPT {
         held[kept] = c;
         return kept + 1;
     }
@@ -30,12 +34,12 @@ fn keep(held: &mut [u8], kept: usize, c: u8) -> usize
 
 // One byte of input.
 fn step(tablebase: &[u16], c: u8, held: &mut [u8], kept: usize, out: &mut [u8], used: usize) -> Fed
-    requires { ⌜ (length (now held) ≡ 65) × (kept ≤ 65) ⌝ }
-    requires { ⌜ used + 126 ≤ length (now out) ⌝ }
-    ensures held { λ r. ⌜ (length (now (held .exit)) ≡ 65) × (r .kept ≤ 65) ⌝ }
+    requires { ⌜ (length (now held) ≡ mostKept) × (kept ≤ mostKept) ⌝ }
+    requires { ⌜ used + mostBytes ≤ length (now out) ⌝ }
+    ensures held { λ r. ⌜ (length (now (held .exit)) ≡ mostKept) × (r .kept ≤ mostKept) ⌝ }
     ensures kept { λ r. ⌜ take (r .kept) (now (held .exit)) ≡ left (take kept (now (held .entry))) (c ∷ []) ⌝ }
     ensures place { λ r. ⌜ r .used ≡ used + length (answers (now (tablebase .entry)) (ended (take kept (now (held .entry))) (c ∷ []))) ⌝ }
-    ensures bound { λ r. ⌜ r .used ≤ used + 126 ⌝ }
+    ensures bound { λ r. ⌜ r .used ≤ used + mostBytes ⌝ }
     ensures buffer { λ _. ⌜ now (out .exit) ≡ sets (now (out .entry)) used (answers (now (tablebase .entry)) (ended (take kept (now (held .entry))) (c ∷ []))) ⌝ }
 {
     if c == b'\n' {
@@ -51,9 +55,9 @@ fn step(tablebase: &[u16], c: u8, held: &mut [u8], kept: usize, out: &mut [u8], 
 
 // A block of input: the lines that it ends are answered at the start of out, and what it leaves is kept.
 pub fn feed(tablebase: &[u16], block: &[u8], held: &mut [u8], kept: usize, out: &mut [u8]) -> Fed
-    requires { ⌜ (length (now held) ≡ 65) × (kept ≤ 65) ⌝ }
-    requires { ⌜ 126 * length (now block) ≤ length (now out) ⌝ }
-    ensures held { λ r. ⌜ (length (now (held .exit)) ≡ 65) × (r .kept ≤ 65) ⌝ }
+    requires { ⌜ (length (now held) ≡ mostKept) × (kept ≤ mostKept) ⌝ }
+    requires { ⌜ mostBytes * length (now block) ≤ length (now out) ⌝ }
+    ensures held { λ r. ⌜ (length (now (held .exit)) ≡ mostKept) × (r .kept ≤ mostKept) ⌝ }
     ensures kept { λ r. ⌜ take (r .kept) (now (held .exit)) ≡ left (take kept (now (held .entry))) (now (block .entry)) ⌝ }
     ensures place { λ r. ⌜ r .used ≡ length (answers (now (tablebase .entry)) (ended (take kept (now (held .entry))) (now (block .entry)))) ⌝ }
     ensures bound { λ r. ⌜ Counts (r .used) (now (out .exit)) ⌝ }
@@ -73,8 +77,8 @@ pub fn feed(tablebase: &[u16], block: &[u8], held: &mut [u8], kept: usize, out: 
 
 // The end of the input: what is kept is the last line, unless it is nothing.
 pub fn finish(tablebase: &[u16], held: &[u8], kept: usize, out: &mut [u8]) -> usize
-    requires { ⌜ (length (now held) ≡ 65) × (kept ≤ 65) ⌝ }
-    requires { ⌜ 126 ≤ length (now out) ⌝ }
+    requires { ⌜ (length (now held) ≡ mostKept) × (kept ≤ mostKept) ⌝ }
+    requires { ⌜ mostBytes ≤ length (now out) ⌝ }
     ensures place { λ r. ⌜ r ≡ length (answers (now (tablebase .entry)) (last (take kept (now (held .entry))))) ⌝ }
     ensures bound { λ r. ⌜ Counts r (now (out .exit)) ⌝ }
     ensures buffer { λ _. ⌜ now (out .exit) ≡ sets (now (out .entry)) 0 (answers (now (tablebase .entry)) (last (take kept (now (held .entry))))) ⌝ }

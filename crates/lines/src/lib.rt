@@ -4,5 +4,6 @@ mod feeding;
 
 pub use answering::LARGEST_COUNT;
 pub use feeding::Fed;
+pub use feeding::MOST_KEPT;
 pub use feeding::feed;
 pub use feeding::finish;

@@ -2,6 +2,8 @@
 ghost use mathlib.Core.Path.{_≡_};
 ghost use Prim.Native.Nat.{_*_, _≤_, _<_};
 ghost use lib.ListN.{length};
+ghost use Rattle.text.specs.Text.{mostBytes};
+ghost use Rattle.lines.specs.Lines.{mostKept};
 use libc::STDIN_FILENO;
 use libc::STDOUT_FILENO;
 
@@ -22,9 +24,9 @@ fn answer_block(
     kept: usize,
     out: &mut [u8],
 ) -> After
-    requires { ⌜ (length (now held) ≡ 65) × (kept ≤ 65) ⌝ }
-    requires { ⌜ 126 * length (now block) ≤ length (now out) ⌝ }
-    ensures kept { λ r. ⌜ r .kept ≤ 65 ⌝ }
+    requires { ⌜ (length (now held) ≡ mostKept) × (kept ≤ mostKept) ⌝ }
+    requires { ⌜ mostBytes * length (now block) ≤ length (now out) ⌝ }
+    ensures kept { λ r. ⌜ r .kept ≤ mostKept ⌝ }
     ensures block { λ _. ⌜ length (now (block .exit)) ≡ length (now (block .entry)) ⌝ }
     ensures held { λ _. ⌜ length (now (held .exit)) ≡ length (now (held .entry)) ⌝ }
     ensures out { λ _. ⌜ length (now (out .exit)) ≡ length (now (out .entry)) ⌝ }
@@ -45,8 +47,8 @@ fn answer_block(
 
 // At the end of the input the last line is answered, where it has no line feed.
 fn answer_last(tablebase: &[u16], held: &[u8], kept: usize, out: &mut [u8])
-    requires { ⌜ (length (now held) ≡ 65) × (kept ≤ 65) ⌝ }
-    requires { ⌜ 126 ≤ length (now out) ⌝ }
+    requires { ⌜ (length (now held) ≡ mostKept) × (kept ≤ mostKept) ⌝ }
+    requires { ⌜ mostBytes ≤ length (now out) ⌝ }
     ensures { λ _. ⌜ length (now (out .exit)) ≡ length (now (out .entry)) ⌝ }
 {
     let used = lines::finish(tablebase, held, kept, out);
@@ -63,8 +65,8 @@ fn blocks_left(blocks: u64, more: bool) -> u64
 
 // All of the input. A loop has to end, and nothing says that the input does: the blocks are counted down from the largest number.
 fn answer_input(tablebase: &[u16], block: &mut [u8], held: &mut [u8], out: &mut [u8])
-    requires { ⌜ length (now held) ≡ 65 ⌝ }
-    requires { ⌜ (126 ≤ length (now out)) × (126 * length (now block) ≤ length (now out)) ⌝ }
+    requires { ⌜ length (now held) ≡ mostKept ⌝ }
+    requires { ⌜ (mostBytes ≤ length (now out)) × (mostBytes * length (now block) ≤ length (now out)) ⌝ }
 {
     let mut kept: usize = 0;
     let mut blocks = u64::MAX;
@@ -78,7 +80,7 @@ fn answer_input(tablebase: &[u16], block: &mut [u8], held: &mut [u8], out: &mut 
 
 // The header comes first, even for empty input.
 fn write_header(out: &mut [u8])
-    requires { ⌜ 126 ≤ length (now out) ⌝ }
+    requires { ⌜ mostBytes ≤ length (now out) ⌝ }
     ensures { λ _. ⌜ length (now (out .exit)) ≡ length (now (out .entry)) ⌝ }
 {
     let used = text::put_header(out);
@@ -87,19 +89,20 @@ fn write_header(out: &mut [u8])
 
 // The session in lent buffers. Were the fill turned back, no entry would be given out: every entry would be void, and entry and move `-`.
 fn serve(tablebase: &mut [u16], block: &mut [u8], held: &mut [u8], out: &mut [u8])
-    requires { ⌜ length (now held) ≡ 65 ⌝ }
-    requires { ⌜ (126 ≤ length (now out)) × (126 * length (now block) ≤ length (now out)) ⌝ }
+    requires { ⌜ length (now held) ≡ mostKept ⌝ }
+    requires { ⌜ (mostBytes ≤ length (now out)) × (mostBytes * length (now block) ≤ length (now out)) ⌝ }
 {
     morris::fill(1, lines::LARGEST_COUNT, LIMIT, tablebase);
     write_header(out);
     answer_input(tablebase, block, held, out);
 }
 
-// The session of the program `desk`. Each byte of a block may end a line, whose answer takes 126 bytes at most.
+// The session of the program `desk`. The one-ring tablebase has 1,302 entries. Each of a block's 1,024 bytes may end a line, whose answer takes 126 bytes
+// at most.
 pub fn run() {
     let mut tablebase = [0u16; 1302];
     let mut block = [0u8; 1024];
-    let mut held = [0u8; 65];
+    let mut held = [0u8; lines::MOST_KEPT];
     let mut out = [0u8; 129024];
     serve(&mut tablebase, &mut block, &mut held, &mut out);
 }

@@ -49,6 +49,10 @@ refusedWord = 114 ∷ 101 ∷ 102 ∷ 117 ∷ 115 ∷ 101 ∷ 100 ∷ space ∷ 
 unfoldable pub refusedLine : ℕ → List ℕ
 refusedLine number = refusedWord ++ item (Number number) lineFeed
 
+-- as many bytes as a line takes at most: six numbers of 20 digits, and a byte after each
+abbrev pub mostBytes : ℕ
+mostBytes = 126
+
 -- the header: `rings mover opponent rank entry move`
 unfoldable pub header : List ℕ
 header =

@@ -1,11 +1,11 @@
 // Numbers in base ten and the lines that `desk` prints, written into a lent buffer from a place on. Each function answers the place after what it
-// wrote; 126 bytes are always enough for a line.
+// wrote; a line takes 126 bytes at most.
 ghost use mathlib.Core.Path.{_≡_};
 ghost use Prim.Native.Nat.{_+_, _≤_};
 ghost use lib.ListN.{length};
 ghost use lib.Seq.{sets};
 ghost use Rattle.io.specs.Counts.{Counts};
-ghost use Rattle.text.specs.Text.{decimal, item, positionLine, refusedLine, header};
+ghost use Rattle.text.specs.Text.{decimal, item, positionLine, refusedLine, mostBytes, header};
 
 // A field of a line: a number, or `-`.
 pub enum Field {
@@ -67,9 +67,9 @@ pub fn put_position(
     entry: Field,
     best: Field,
 ) -> usize
-    requires { ⌜ at + 126 ≤ length (now out) ⌝ }
+    requires { ⌜ at + mostBytes ≤ length (now out) ⌝ }
     ensures place { λ r. ⌜ r ≡ at + length (positionLine rings mover opponent rank entry best) ⌝ }
-    ensures bound { λ r. ⌜ r ≤ at + 126 ⌝ }
+    ensures bound { λ r. ⌜ r ≤ at + mostBytes ⌝ }
     ensures buffer { λ _. ⌜ now (out .exit) ≡ sets (now (out .entry)) at (positionLine rings mover opponent rank entry best) ⌝ }
 {
     let second = put_item(out, at, Field::Number(rings), b' ');
@@ -82,9 +82,9 @@ pub fn put_position(
 
 // Writes the line of a refused frame.
 pub fn put_refused(out: &mut [u8], at: usize, number: u64) -> usize
-    requires { ⌜ at + 126 ≤ length (now out) ⌝ }
+    requires { ⌜ at + mostBytes ≤ length (now out) ⌝ }
     ensures place { λ r. ⌜ r ≡ at + length (refusedLine number) ⌝ }
-    ensures bound { λ r. ⌜ r ≤ at + 126 ⌝ }
+    ensures bound { λ r. ⌜ r ≤ at + mostBytes ⌝ }
     ensures buffer { λ _. ⌜ now (out .exit) ≡ sets (now (out .entry)) at (refusedLine number) ⌝ }
 {
     let next = put(out, at, b"refused ");
@@ -93,7 +93,7 @@ pub fn put_refused(out: &mut [u8], at: usize, number: u64) -> usize
 
 // Writes the header at the start.
 pub fn put_header(out: &mut [u8]) -> usize
-    requires { ⌜ 126 ≤ length (now out) ⌝ }
+    requires { ⌜ mostBytes ≤ length (now out) ⌝ }
     ensures place { λ r. ⌜ r ≡ length header ⌝ }
     ensures bound { λ r. ⌜ Counts r (now (out .exit)) ⌝ }
     ensures buffer { λ _. ⌜ now (out .exit) ≡ sets (now (out .entry)) 0 header ⌝ }

@@ -3,12 +3,13 @@ use mathlib.Core.Path.{_≡_, refl, _∙_}
 use Prim.Native.Nat.{_≤_}
 use native.Mathlib.Omega.{arith}
 use lib.ListN.{length}
+use Rattle.lines.specs.Lines.{mostKept}
 use Rattle.session.proofs.answer_input.Statement.{statement}
 use Rattle.session.proofs.answer_input.Tie as tie
 
 abbrev Inv-loop : tie.InvT-loop
 Inv-loop tablebase block₀ held₀ out₀ kept₀ blocks₀ block held out kept blocks =
-    (length block ≡ length block₀) × (length held ≡ length held₀) × (length out ≡ length out₀) × (kept ≤ 65)
+    (length block ≡ length block₀) × (length held ≡ length held₀) × (length out ≡ length out₀) × (kept ≤ mostKept)
 
 abbrev μ-loop : tie.MeasureT-loop
 μ-loop tablebase block₀ held₀ out₀ kept₀ blocks₀ block held out kept blocks = blocks

@@ -4,13 +4,14 @@ use Prim.Native.Nat.{_-_, _≤_}
 use native.Mathlib.Omega.{arith}
 use lib.ListN.{length, take}
 use lib.Seq.{length-take-le}
+use Rattle.lines.specs.Lines.{mostKept}
 use Rattle.lines.proofs.Blocks.{Feeding, feeding-none, feeding-more, feeding-all}
 use Rattle.lines.proofs.feeding.feed.Statement.{statement}
 use Rattle.lines.proofs.feeding.feed.Tie as tie
 
 abbrev Inv-loop : tie.InvT-loop
 Inv-loop tablebase block held₀ kept out₀ count₀ used₀ i₀ held out count used i =
-    (i ≤ length block) × (length held ≡ 65) × (count ≤ 65) × Feeding tablebase block (take kept held₀) out₀ i (take count held) out used
+    (i ≤ length block) × (length held ≡ mostKept) × (count ≤ mostKept) × Feeding tablebase block (take kept held₀) out₀ i (take count held) out used
 
 abbrev μ-loop : tie.MeasureT-loop
 μ-loop tablebase block held₀ kept out₀ count₀ used₀ i₀ held out count used i = length block - i
