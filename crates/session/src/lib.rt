@@ -2,10 +2,13 @@
 ghost use mathlib.Core.Path.{_≡_};
 ghost use Prim.Native.Nat.{_*_, _≤_, _<_};
 ghost use lib.ListN.{length};
+ghost use Rattle.morris.specs.Fills.{solved, FillCall};
 ghost use Rattle.text.specs.Text.{mostBytes};
 ghost use Rattle.lines.specs.Lines.{mostKept};
+ghost use Rattle.lines.specs.Answers.{largestCount};
 use libc::STDIN_FILENO;
 use libc::STDOUT_FILENO;
+use morris::Solved;
 
 // The limit of the fill, in plies.
 const LIMIT: u32 = 2000;
@@ -87,12 +90,19 @@ fn write_header(out: &mut [u8])
     io::write_all(STDOUT_FILENO, &out[..used]);
 }
 
-// The session in lent buffers. Were the fill turned back, no entry would be given out: every entry would be void, and entry and move `-`.
+// The one-ring tablebase is filled.
+fn fill_tablebase(tablebase: &mut [u16]) -> Solved
+    ensures { λ r. ⌜ FillCall 1 largestCount 2000 (now (tablebase .entry)) (now (tablebase .exit)) (solved r) ⌝ }
+{
+    morris::fill(1, lines::LARGEST_COUNT, LIMIT, tablebase)
+}
+
+// The session in lent buffers. Were the fill turned back, every entry would be void, and a line would show `-` for it.
 fn serve(tablebase: &mut [u16], block: &mut [u8], held: &mut [u8], out: &mut [u8])
     requires { ⌜ length (now held) ≡ mostKept ⌝ }
     requires { ⌜ (mostBytes ≤ length (now out)) × (mostBytes * length (now block) ≤ length (now out)) ⌝ }
 {
-    morris::fill(1, lines::LARGEST_COUNT, LIMIT, tablebase);
+    fill_tablebase(tablebase);
     write_header(out);
     answer_input(tablebase, block, held, out);
 }
