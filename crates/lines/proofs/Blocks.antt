@@ -1,0 +1,135 @@
+-- Lines block by block: what a byte does, a block after a block, and the loop over a block's bytes. Assumes nothing.
+use mathlib.Core.Path.{_≡_, refl, sym, ap, ap₂, _∙_}
+use mathlib.Core.Bool.{Bool, true, false, cond}
+use mathlib.Core.List.{List, [], _∷_, _++_, append-assoc, append-nil}
+use Prim.Native.Nat.{ℕ, zero, suc, _+_, _*_, _≤_, _<_}
+use native.Mathlib.Nat.{add-zero}
+use native.Mathlib.Omega.{arith}
+use lib.Dec.{eqb}
+use lib.ListN.{length, getD, drop, take, set, length-append, length-take}
+use lib.Seq.{drop-cons, drop-length, sets, length-sets, take-all, take-suc-set, take-append-le}
+use borrow.Author.Tests.{eq-eqb, ne-eqb}
+use Rattle.lists.proofs.Writing.{sets-append}
+use Rattle.text.specs.Text.{lineFeed, mostBytes}
+use Rattle.lines.specs.Lines.{mostKept, keep, ended, left, last}
+use Rattle.lines.specs.Answers.{answerOf, answers}
+
+-- a byte that is kept: in its place, or dropped
+pub keep-room : (l : List ℕ) (n c : ℕ) → n < mostKept → length l ≡ mostKept → take (n + 1) (set l n c) ≡ keep (take n l) c
+unfolding keep
+keep-room l n c h e =
+    let s : n + 1 ≡ suc n = omega arith in
+    ap (λ (k : ℕ). take k (set l n c)) s ∙ take-suc-set l n c (omega arith)
+    ∙ sym (take-all mostKept (take n l ++ (c ∷ [])) (omega (arith, length-append (take n l) (c ∷ []), length-take n l)))
+
+pub keep-full : (l : List ℕ) (n c : ℕ) → n ≡ mostKept → length l ≡ mostKept → take n l ≡ keep (take n l) c
+unfolding keep
+keep-full l n c h e =
+    let a : take n l ≡ l = take-all n l (omega arith) in
+    a ∙ sym (take-all mostKept l (omega arith))
+    ∙ sym (ap (λ (x : List ℕ). take mostKept (x ++ (c ∷ []))) a ∙ take-append-le mostKept l (c ∷ []) (omega arith))
+
+-- a byte that ends a line, and one that does not
+module _ (kept : List ℕ) (c : ℕ) where
+  pub byte-ends : c ≡ lineFeed → (ended kept (c ∷ []) ≡ kept ∷ []) × (left kept (c ∷ []) ≡ [])
+  unfolding ended left
+  byte-ends e = (simp (eq-eqb c lineFeed e), simp (eq-eqb c lineFeed e))
+
+  pub byte-kept : (c ≡ lineFeed → ⊥) → (ended kept (c ∷ []) ≡ []) × (left kept (c ∷ []) ≡ keep kept c)
+  unfolding ended left
+  byte-kept e = (simp (ne-eqb c lineFeed e), simp (ne-eqb c lineFeed e))
+
+-- a block after a block
+pub ended-append : (kept a b : List ℕ) → ended kept (a ++ b) ≡ ended kept a ++ ended (left kept a) b
+unfolding ended left
+ended-append kept [] b = refl
+ended-append kept (c ∷ a) b = go (eqb c lineFeed) (ended-append [] a b) (ended-append (keep kept c) a b)
+  where
+    go : (t : Bool) → ended [] (a ++ b) ≡ ended [] a ++ ended (left [] a) b
+        → ended (keep kept c) (a ++ b) ≡ ended (keep kept c) a ++ ended (left (keep kept c) a) b
+        → cond t (kept ∷ ended [] (a ++ b)) (ended (keep kept c) (a ++ b))
+        ≡ cond t (kept ∷ ended [] a) (ended (keep kept c) a) ++ ended (cond t (left [] a) (left (keep kept c) a)) b
+    go true p q = ap (λ (x : List (List ℕ)). kept ∷ x) p
+    go false p q = q
+
+pub left-append : (kept a b : List ℕ) → left kept (a ++ b) ≡ left (left kept a) b
+unfolding left
+left-append kept [] b = refl
+left-append kept (c ∷ a) b = go (eqb c lineFeed) (left-append [] a b) (left-append (keep kept c) a b)
+  where
+    go : (t : Bool) → left [] (a ++ b) ≡ left (left [] a) b → left (keep kept c) (a ++ b) ≡ left (left (keep kept c) a) b
+        → cond t (left [] (a ++ b)) (left (keep kept c) (a ++ b)) ≡ left (cond t (left [] a) (left (keep kept c) a)) b
+    go true p q = p
+    go false p q = q
+
+-- what is kept at the end
+pub last-none : (l : List ℕ) → last (take 0 l) ≡ []
+unfolding last
+last-none l = refl
+
+pub last-some : (l : List ℕ) (n : ℕ) → (n ≡ 0 → ⊥) → n ≤ length l → last (take n l) ≡ take n l ∷ []
+unfolding last
+last-some [] n z h = absurd (z (omega arith))
+last-some (c ∷ l) zero z h = absurd (z refl)
+last-some (c ∷ l) (suc n) z h = refl
+
+module _ (tablebase : List ℕ) where
+  pub answers-append : (a b : List (List ℕ)) → answers tablebase (a ++ b) ≡ answers tablebase a ++ answers tablebase b
+  unfolding answers
+  answers-append [] b = refl
+  answers-append (l ∷ a) b =
+      ap (λ (x : List ℕ). answerOf tablebase l ++ x) (answers-append a b)
+      ∙ sym (append-assoc (answerOf tablebase l) (answers tablebase a) (answers tablebase b))
+
+  pub answers-one : (l : List ℕ) → answers tablebase (l ∷ []) ≡ answerOf tablebase l
+  unfolding answers
+  answers-one l = append-nil (answerOf tablebase l)
+
+  pub answers-none : answers tablebase [] ≡ []
+  unfolding answers
+  answers-none = refl
+
+  -- a block's loop: what is left to be done makes of the state what is wanted
+  pub record Feeding (block kept₀ out₀ : List ℕ) (i : ℕ) (kept out : List ℕ) (used : ℕ) : Type 0 where
+    pub rest : left kept (drop i block) ≡ left kept₀ block
+    pub done : sets out used (answers tablebase (ended kept (drop i block))) ≡ sets out₀ 0 (answers tablebase (ended kept₀ block))
+    pub place : used + length (answers tablebase (ended kept (drop i block))) ≡ length (answers tablebase (ended kept₀ block))
+    pub within : used ≤ mostBytes * i
+    pub same : length out ≡ length out₀
+
+  pub feeding-none : (block kept out : List ℕ) → Feeding block kept out 0 kept out 0
+  feeding-none block kept out = record { rest = refl; done = refl; place = omega arith; within = omega arith; same = refl }
+
+  module _ {block kept₀ out₀ : List ℕ} {i : ℕ} {kept out : List ℕ} {used : ℕ} (w : Feeding block kept₀ out₀ i kept out used) where
+    -- a byte more
+    pub feeding-more : (kept′ out′ : List ℕ) (used′ : ℕ) → i < length block → kept′ ≡ left kept (getD block i 0 ∷ [])
+        → (used′ ≡ used + length (answers tablebase (ended kept (getD block i 0 ∷ []))))
+        × ((used′ ≤ used + mostBytes) × (out′ ≡ sets out used (answers tablebase (ended kept (getD block i 0 ∷ [])))))
+        → Feeding block kept₀ out₀ (i + 1) kept′ out′ used′
+    feeding-more kept′ out′ used′ l e (u, (b, o)) =
+        let c : List ℕ = getD block i 0 ∷ [] in
+        let k : suc i ≡ i + 1 = omega arith in
+        let d : drop i block ≡ c ++ drop (i + 1) block = drop-cons block i 0 l ∙ ap (λ (j : ℕ). getD block i 0 ∷ drop j block) k in
+        let r : left kept (drop i block) ≡ left kept′ (drop (i + 1) block) =
+        ap (left kept) d ∙ left-append kept c (drop (i + 1) block) ∙ ap (λ (x : List ℕ). left x (drop (i + 1) block)) (sym e) in
+        let f : List ℕ = answers tablebase (ended kept c) in
+        let g : List ℕ = answers tablebase (ended kept′ (drop (i + 1) block)) in
+        let a : answers tablebase (ended kept (drop i block)) ≡ f ++ g =
+        ap (λ (x : List ℕ). answers tablebase (ended kept x)) d ∙ ap (answers tablebase) (ended-append kept c (drop (i + 1) block))
+        ∙ answers-append (ended kept c) (ended (left kept c) (drop (i + 1) block))
+        ∙ ap (λ (x : List ℕ). f ++ answers tablebase (ended x (drop (i + 1) block))) (sym e) in
+        record {
+          rest = sym r ∙ w .rest;
+          done = ap₂ (λ (x : List ℕ) (y : ℕ). sets x y g) o u ∙ sym (sets-append out used f g) ∙ ap (sets out used) (sym a) ∙ w .done;
+          place = omega (arith, w .place, ap length a, length-append f g);
+          within = omega (arith, w .within);
+          same = ap length o ∙ length-sets out used f ∙ w .same;
+        }
+
+    -- all bytes
+    pub feeding-all : i ≡ length block
+        → (kept ≡ left kept₀ block) × (used ≡ length (answers tablebase (ended kept₀ block))) × (out ≡ sets out₀ 0 (answers tablebase (ended kept₀ block)))
+    unfolding left ended answers
+    feeding-all e =
+        let d : drop i block ≡ [] = ap (λ (j : ℕ). drop j block) e ∙ drop-length block in
+        (rw d at (w .rest), sym (add-zero used) ∙ rw d at (w .place), rw d at (w .done))

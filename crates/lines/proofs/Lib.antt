@@ -1,0 +1,5 @@
+pub mod Fields
+pub mod Reading
+pub mod Blocks
+pub mod Whole
+pub mod Filled

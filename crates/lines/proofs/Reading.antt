@@ -1,0 +1,90 @@
+-- The answer to a line by what reading it answers: turned back, or the board that the two sets stand for. And over 64 characters the first 65 decide.
+-- Assumes nothing.
+use mathlib.Core.Path.{_≡_, refl, sym, ap, ap₂, _∙_}
+use mathlib.Core.Bool.{Bool, true, false}
+use mathlib.Core.List.{List, [], _∷_}
+use Prim.Native.Nat.{ℕ, zero, suc, _*_, _≤_, _<_}
+use native.Mathlib.Nat.{le-of-suc-le-suc}
+use native.Mathlib.Omega.{arith}
+use lib.Dec.{ltb}
+use lib.ListN.{length, take, length-take}
+use lib.Seq.{take-all}
+use borrow.Author.Tests.{ltb-true, ltb-false, lt-ltb, ne-eqb}
+use Rattle.lists.specs.Lists.{values}
+use Rattle.board.specs.declared.position.Position.{Position}
+use Rattle.board.specs.Board.{positionOf, valueAt, boardOf}
+use Rattle.board.proofs.Sides.{position-sides}
+use Rattle.frames.specs.Frame.{frameWrong, ringsIn, boardIn}
+use Rattle.refusals.specs.Refusals.{refusal}
+use Rattle.refusals.specs.Conditions.{readPicks}
+use Rattle.refusals.specs.Answers.{accepted, refused}
+use Rattle.refusals.proofs.Answering.{accepted-values}
+use Rattle.refusals.proofs.Conditions.{Accepted, accepted-board}
+use Rattle.refusals.proofs.FrameConditions.{board-accepted}
+use Rattle.morris.specs.ReadFrameCall.{framePosition, readFrameCall}
+use Rattle.morris.proofs.Positions.{position-back}
+use Rattle.text.specs.Text.{refusedLine}
+use Rattle.lines.specs.Lines.{mostKept}
+use Rattle.lines.specs.Answers.{boardLine, frameLine, answerOf}
+
+-- the values of fewer points
+take-values : (f : ℕ → ℕ) (n m i : ℕ) → n ≤ m → take n (values f i m) ≡ values f i n
+take-values f zero m i h = refl
+take-values f (suc n) zero i h = absurd (omega arith)
+take-values f (suc n) (suc m) i h = ap (λ (l : List ℕ). f i ∷ l) (take-values f n m (suc i) (le-of-suc-le-suc h))
+
+take-board : (n : ℕ) (p : Position) → n ≤ 24 → take n (boardOf 24 p) ≡ boardOf n p
+unfolding boardOf
+take-board n p h = take-values (valueAt p) n 24 0 h
+
+module _ (tablebase line : List ℕ) where
+  -- turned back
+  pub line-refused : (n : ℕ) → refused n ≡ readFrameCall line → refusedLine n ≡ answerOf tablebase line
+  unfolding answerOf
+  line-refused n e = ap (frameLine tablebase line) e
+
+  -- a position: the rings are few, and the sets stand for the frame's board
+  module _ (rings m o : ℕ) (e : accepted (rings ∷ m ∷ o ∷ []) ≡ readFrameCall line) where
+    given : (refusal (readPicks line) ≡ 0) × (rings ∷ m ∷ o ∷ [] ≡ framePosition line)
+    unfolding readFrameCall
+    given = accepted-values (rings ∷ m ∷ o ∷ []) (framePosition line) (refusal (readPicks line)) e
+
+    is-board : Accepted (ringsIn line) (boardIn line)
+    is-board = accepted-board (ringsIn line) (boardIn line) (board-accepted line (given .0))
+
+    same-rings : rings ≡ ringsIn line
+    same-rings = let q = given .1 in cc
+
+    pub few-rings : rings ≤ 3
+    few-rings = omega (arith, same-rings, is-board .rings-high)
+
+    same-position : record { mover = m; opponent = o } ≡ positionOf (boardIn line)
+    same-position = let q = given .1 in cc (position-sides (boardIn line))
+
+    frame-board : take (8 * rings) (boardOf 24 (record { mover = m; opponent = o })) ≡ boardIn line
+    frame-board =
+        take-board (8 * rings) (record { mover = m; opponent = o }) (omega (arith, few-rings))
+        ∙ ap₂ (λ (r : ℕ) (p : Position). boardOf (8 * r) p) same-rings same-position ∙ position-back (ringsIn line) (boardIn line) is-board
+
+    pub line-board : (b : List ℕ) → b ≡ take (8 * rings) (boardOf 24 (record { mover = m; opponent = o }))
+        → boardLine tablebase rings b ≡ answerOf tablebase line
+    unfolding answerOf
+    line-board b q = ap₂ (boardLine tablebase) same-rings (q ∙ frame-board) ∙ ap (frameLine tablebase line) e
+
+  -- over 64 characters
+  long-refused : 64 < length line → readFrameCall line ≡ refused 14
+  unfolding readFrameCall frameWrong
+  long-refused h = rw (ne-eqb (length line) 0 (λ z. absurd (omega arith)), lt-ltb 64 (length line) h)
+
+-- a line and its first 65 bytes have one answer
+pub first-decide : (tablebase line : List ℕ) → answerOf tablebase (take mostKept line) ≡ answerOf tablebase line
+unfolding answerOf
+first-decide tablebase line = go (ltb mostKept (length line)) refl
+  where
+    go : (t : Bool) → ltb mostKept (length line) ≡ t
+        → frameLine tablebase (take mostKept line) (readFrameCall (take mostKept line)) ≡ frameLine tablebase line (readFrameCall line)
+    go true e =
+        let l = ltb-true mostKept (length line) e in
+        ap (frameLine tablebase (take mostKept line)) (long-refused tablebase (take mostKept line) (omega (arith, length-take mostKept line)))
+        ∙ sym (ap (frameLine tablebase line) (long-refused tablebase line (omega arith)))
+    go false e = ap (λ (l : List ℕ). frameLine tablebase l (readFrameCall l)) (take-all mostKept line (ltb-false mostKept (length line) e))

@@ -1,0 +1,59 @@
+-- `lines::answering::move_of` meets its contract: `-` on more than one ring, else what the call answers. Assumes nothing.
+use mathlib.Core.Path.{sym, ap, _∙_}
+use borrow.Author.Needs.{needs}
+use Rattle.morris.specs.declared.Chosen.{Chosen}
+use Rattle.morris.specs.BestMoveCall.{chosen}
+use Rattle.lines.specs.Answers.{fieldOf, moveField}
+use Rattle.lines.proofs.Fields.{shown-here, absent-elsewhere}
+use Rattle.lines.proofs.answering.move_of.Statement.{statement}
+use Rattle.lines.proofs.answering.move_of.Tie as tie
+
+is-absent-requires : tie.Need-is-absent-requires
+is-absent-requires c κs = search needs
+
+returns : tie.Need-returns
+unfolding moveField
+returns c =
+    let x = c .before in
+    absent-elsewhere (x .before .before .before .args .rings) _ (sym (c .if1 .taken) ∙ x .is-absent .ensures)
+
+best-move-requires : tie.Need-best-move-requires
+best-move-requires c κs = search needs
+
+enum-known-answer : tie.Need-enum-known-answer
+enum-known-answer c = search needs
+
+enum-told : tie.Need-enum-told
+enum-told c = search needs
+
+returns-2 : tie.Need-returns-2
+unfolding moveField
+returns-2 c =
+    let x = c .before .before in
+    let i = x .before in
+    sym (ap (λ (a : Chosen). fieldOf (chosen a)) (c .enum-told .given .1)) ∙ ap fieldOf (x .best-move .ensures)
+    ∙ shown-here (i .before .before .before .before .args .rings) _ (sym (i .if1 .left) ∙ i .before .is-absent .ensures)
+
+cast-t7 : tie.Need-cast-t7
+cast-t7 c = search needs
+
+returns-3 : tie.Need-returns-3
+unfolding moveField
+returns-3 c =
+    let x = c .before .before .before in
+    let i = x .before in
+    sym (ap (λ (a : Chosen). fieldOf (chosen a)) (c .before .answer .given .1)) ∙ ap fieldOf (x .best-move .ensures)
+    ∙ shown-here (i .before .before .before .before .args .rings) _ (sym (i .if1 .left) ∙ i .before .is-absent .ensures)
+
+pub move-of-spec : {M : Type 1} → statement M
+move-of-spec =
+    tie.close
+    (tie.spec
+    is-absent-requires
+    returns
+    best-move-requires
+    enum-known-answer
+    enum-told
+    returns-2
+    cast-t7
+    returns-3)
