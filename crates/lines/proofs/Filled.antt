@@ -3,21 +3,19 @@
 use mathlib.Core.Path.{_≡_, refl, sym, ap, subst, _∙_}
 use mathlib.Core.Bool.{Bool, true, false, not, cond}
 use mathlib.Core.List.{List, [], _∷_}
-use mathlib.Core.Logic.{inl, inr}
 use Prim.Native.Nat.{ℕ}
 use native.Mathlib.Omega.{arith}
 use lib.ListN.{length}
-use borrow.Author.Tests.{le-ltb, eq-eqb, ne-eqb}
+use borrow.Author.Tests.{le-ltb, eq-eqb}
 use Rattle.board.specs.Board.{count}
 use Rattle.ranking.specs.Rank.{rank}
 use Rattle.layout.specs.Layout.{tablebaseLength}
 use Rattle.frames.specs.Frame.{ringsIn, boardIn}
-use Rattle.game.specs.Game.{voidEntry}
 use Rattle.outcomes.specs.Whole.{TrueEntry}
 use Rattle.outcomes.specs.Filled.{AllTables}
 use Rattle.outcomes.specs.Order.{TrueEntries}
-use Rattle.outcomes.specs.Places.{entryAt, isVoid, successorVoid}
-use Rattle.outcomes.proofs.WholeGame.{board-true}
+use Rattle.outcomes.specs.Places.{entryAt, successorVoid}
+use Rattle.outcomes.proofs.WholeGame.{not-void, board-true}
 use Rattle.refusals.specs.Refusals.{table, pickedRows, refusal}
 use Rattle.refusals.specs.Conditions.{countAbove, moverBlocked, boardPicks, tablebasePicks, lookupPicks, bestMovePicks, readPicks}
 use Rattle.refusals.specs.Answers.{Answer, accepted, refused, value}
@@ -40,11 +38,6 @@ use Rattle.lines.specs.Answers.{largestCount, fieldOf, entryField, moveF
 pub rank-shown : (rings : ℕ) (b : List ℕ) → refusal (boardPicks rings b) ≡ 0 → value (rankCall rings b) 0 ≡ rank b
 unfolding rankCall
 rank-shown rings b e = ap (λ (a : Answer). value a 0) (sym (answer-accepted (refusal (boardPicks rings b)) (rank b ∷ []) (sym e)))
-
--- a true entry is not void
-not-void : (b : List ℕ) (e : ℕ) → TrueEntry 1 b e → isVoid e ≡ false
-not-void b e (inl a) = ne-eqb e voidEntry (λ z. omega (arith, a .0))
-not-void b e (inr a) = ne-eqb e voidEntry (λ z. omega (arith, a .0))
 
 -- what is shown of a board on one ring
 pub record Shown (tablebase b : List ℕ) : Type 0 where
@@ -80,7 +73,7 @@ module _ (limit : ℕ) (before after : List ℕ) (filled : FillCall 1 largestCou
     unfolding lookupCall
     looked-up =
         sym (answer-accepted (refusal (lookupPicks 1 b largestCount after)) _
-        (sym (lookup-decides 1 b largestCount after (sym right) ∙ ap (λ (t : Bool). cond t 12 0) (not-void b (entryAt 1 largestCount after b) is-true))))
+        (sym (lookup-decides 1 b largestCount after (sym right) ∙ ap (λ (t : Bool). cond t 12 0) (not-void 1 b (entryAt 1 largestCount after b) is-true))))
 
     turned-back : moverBlocked 1 b ≡ true → bestMoveCall 1 b largestCount after ≡ refused 9
     unfolding bestMoveCall

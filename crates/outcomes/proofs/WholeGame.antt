@@ -64,7 +64,7 @@ table-true rings k T tablebase entries b s t =
     (entries (count 1 b) (count 2 b) (rank b) t (rank-in rings (count 1 b) (count 2 b) b w))
 
 -- a true entry is not void
-not-void : (rings : ℕ) (b : List ℕ) (e : ℕ) → TrueEntry rings b e → isVoid e ≡ false
+pub not-void : (rings : ℕ) (b : List ℕ) (e : ℕ) → TrueEntry rings b e → isVoid e ≡ false
 not-void rings b e (inl a) = ne-eqb e voidEntry (λ z. omega (arith, a .0))
 not-void rings b e (inr a) = ne-eqb e voidEntry (λ z. omega (arith, a .0))
 
