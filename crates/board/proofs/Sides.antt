@@ -9,14 +9,14 @@ use lib.Dec.{eqb}
 use borrow.Author.Tests.{eqb-true}
 use lib.Count.{ones, ones-step}
 use lib.Pow.{pow-mono}
-use lib.ListN.{length, getD, drop, length-drop}
+use lib.ListN.{length, getD, take, drop, length-drop}
 use lib.Seq.{drop-cons, ext-getD}
 use Rattle.sets.specs.Sets.{bit, members}
 use Rattle.sets.proofs.Laws.{bit-zero, bit-suc, members-all}
 use Rattle.lists.specs.Lists.{values}
 use Rattle.board.specs.declared.position.Position.{Position}
 use Rattle.board.specs.Board.{Values, more, count, digit, setOf, positionOf, valueAt, boardOf, OnBoard}
-use Rattle.lists.proofs.Table.{rule, length-values}
+use Rattle.lists.proofs.Table.{rule, length-values, take-values}
 
 pub digit-lt : (b : Bool) → digit b < 2
 digit-lt true = omega arith
@@ -151,6 +151,11 @@ said (suc (suc x)) y h = absurd (omega arith)
 pub values-all : (f : ℕ → ℕ) (n i : ℕ) → ((q : ℕ) → q < i + n → f q ≤ 2) → Values (values f i n)
 values-all f zero i h = tt
 values-all f (suc n) i h = (h i (omega arith), values-all f n (suc i) (λ q l. h q (omega arith)))
+
+-- the first points of a position's board are its board of so many points
+pub take-board : (n points : ℕ) (p : Position) → n ≤ points → take n (boardOf points p) ≡ boardOf n p
+unfolding boardOf
+take-board n points p h = take-values (valueAt p) n points 0 h
 
 -- the board of a position has no other values than 0, 1 and 2
 pub board-values : (points : ℕ) (p : Position) → OnBoard points p → Values (boardOf points p)

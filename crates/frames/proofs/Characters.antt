@@ -9,7 +9,7 @@ use lib.Dec.{eqb, ltb}
 use lib.Pow.{pow-mono}
 use lib.ListN.{length, getD, drop, length-drop}
 use lib.Seq.{drop-cons}
-use borrow.Author.Tests.{ltb-false, eqb-false, eq-eqb, ne-eqb}
+use borrow.Author.Tests.{lt-ltb, ltb-false, eqb-false, eq-eqb, ne-eqb}
 use Rattle.lists.proofs.Tests.{or-left, or-right}
 use Rattle.board.specs.Board.{Values, digit, setOf}
 use Rattle.board.proofs.Sides.{set-lt, set-none, set-cons}
@@ -65,6 +65,10 @@ frame-right f e =
     let n : length f ≡ 0 → ⊥ = eqb-false (length f) 0 (or-left empty long (or-left (empty || long) odd e1)) in
     let m : length f % 2 ≡ 1 → ⊥ = eqb-false (length f % 2) 1 (or-right (empty || long) odd e1) in
     record { some = omega arith; even = omega arith; characters = or-right (empty || long || odd) (anyOutside f) e }
+
+pub long-wrong : (f : List ℕ) → mostCharacters < length f → frameWrong f ≡ true
+unfolding frameWrong
+long-wrong f h = rw (ne-eqb (length f) 0 (λ z. absurd (omega arith)), lt-ltb mostCharacters (length f) h)
 
 -- two elements of a list, from i on
 pub drop-two : (f : List ℕ) (i : ℕ) → i + 2 ≤ length f → drop i f ≡ getD f i 0 ∷ getD f (i + 1) 0 ∷ drop (i + 2) f

@@ -3,39 +3,28 @@
 use mathlib.Core.Path.{_≡_, refl, sym, ap, ap₂, _∙_}
 use mathlib.Core.Bool.{Bool, true, false}
 use mathlib.Core.List.{List, [], _∷_}
-use Prim.Native.Nat.{ℕ, zero, suc, _*_, _≤_, _<_}
-use native.Mathlib.Nat.{le-of-suc-le-suc}
+use Prim.Native.Nat.{ℕ, _*_, _≤_, _<_}
 use native.Mathlib.Omega.{arith}
 use lib.Dec.{ltb}
 use lib.ListN.{length, take, length-take}
 use lib.Seq.{take-all}
-use borrow.Author.Tests.{ltb-true, ltb-false, lt-ltb, ne-eqb}
-use Rattle.lists.specs.Lists.{values}
+use borrow.Author.Tests.{ltb-true, ltb-false}
 use Rattle.board.specs.declared.position.Position.{Position}
-use Rattle.board.specs.Board.{positionOf, valueAt, boardOf}
-use Rattle.board.proofs.Sides.{position-sides}
-use Rattle.frames.specs.Frame.{frameWrong, ringsIn, boardIn}
+use Rattle.board.specs.Board.{positionOf, boardOf}
+use Rattle.board.proofs.Sides.{take-board, position-sides}
+use Rattle.frames.specs.Frame.{mostCharacters, ringsIn, boardIn}
+use Rattle.frames.proofs.Characters.{long-wrong}
 use Rattle.refusals.specs.Refusals.{refusal}
 use Rattle.refusals.specs.Conditions.{readPicks}
 use Rattle.refusals.specs.Answers.{accepted, refused}
-use Rattle.refusals.proofs.Answering.{accepted-values}
+use Rattle.refusals.proofs.Answering.{answer-refused, accepted-values}
 use Rattle.refusals.proofs.Conditions.{Accepted, accepted-board}
-use Rattle.refusals.proofs.FrameConditions.{board-accepted}
+use Rattle.refusals.proofs.FrameConditions.{characters-refused, board-accepted}
 use Rattle.morris.specs.ReadFrameCall.{framePosition, readFrameCall}
 use Rattle.morris.proofs.Positions.{position-back}
 use Rattle.text.specs.Text.{refusedLine}
 use Rattle.lines.specs.Lines.{mostKept}
 use Rattle.lines.specs.Answers.{boardLine, frameLine, answerOf}
-
--- the values of fewer points
-take-values : (f : ℕ → ℕ) (n m i : ℕ) → n ≤ m → take n (values f i m) ≡ values f i n
-take-values f zero m i h = refl
-take-values f (suc n) zero i h = absurd (omega arith)
-take-values f (suc n) (suc m) i h = ap (λ (l : List ℕ). f i ∷ l) (take-values f n m (suc i) (le-of-suc-le-suc h))
-
-take-board : (n : ℕ) (p : Position) → n ≤ 24 → take n (boardOf 24 p) ≡ boardOf n p
-unfolding boardOf
-take-board n p h = take-values (valueAt p) n 24 0 h
 
 module _ (tablebase line : List ℕ) where
   -- turned back
@@ -63,7 +52,7 @@ module _ (tablebase line : List ℕ) where
 
     frame-board : take (8 * rings) (boardOf 24 (record { mover = m; opponent = o })) ≡ boardIn line
     frame-board =
-        take-board (8 * rings) (record { mover = m; opponent = o }) (omega (arith, few-rings))
+        take-board (8 * rings) 24 (record { mover = m; opponent = o }) (omega (arith, few-rings))
         ∙ ap₂ (λ (r : ℕ) (p : Position). boardOf (8 * r) p) same-rings same-position ∙ position-back (ringsIn line) (boardIn line) is-board
 
     pub line-board : (b : List ℕ) → b ≡ take (8 * rings) (boardOf 24 (record { mover = m; opponent = o }))
@@ -72,9 +61,9 @@ module _ (tablebase line : List ℕ) where
     line-board b q = ap₂ (boardLine tablebase) same-rings (q ∙ frame-board) ∙ ap (frameLine tablebase line) e
 
   -- over 64 characters
-  long-refused : 64 < length line → readFrameCall line ≡ refused 14
-  unfolding readFrameCall frameWrong
-  long-refused h = rw (ne-eqb (length line) 0 (λ z. absurd (omega arith)), lt-ltb 64 (length line) h)
+  long-refused : mostCharacters < length line → readFrameCall line ≡ refused 14
+  unfolding readFrameCall
+  long-refused h = sym (answer-refused 14 (refusal (readPicks line)) (framePosition line) (λ z. absurd (omega arith)) (characters-refused line (long-wrong line h)))
 
 -- a line and its first 65 bytes have one answer
 pub first-decide : (tablebase line : List ℕ) → answerOf tablebase (take mostKept line) ≡ answerOf tablebase line

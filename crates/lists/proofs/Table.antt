@@ -3,12 +3,12 @@
 use mathlib.Core.Path.{_≡_, refl, ap, ap₂, subst, subst⁻¹, _∙_, sym}
 use mathlib.Core.Bool.{Bool, true, false, false≢true}
 use mathlib.Core.Logic.{⊎-elim}
-use mathlib.Core.List.{List}
+use mathlib.Core.List.{List, _∷_}
 use Prim.Native.Nat.{ℕ, zero, suc, _+_, _*_, _/_, _%_, _≤_, _<_}
 use native.Mathlib.Nat.{add-zero, zero-add, add-suc, suc-add, le-of-suc-le-suc, not-suc-le-zero, eq-or-lt-of-le, mul-comm}
 use native.Mathlib.Omega.{arith}
 use lib.Arith.{digits-lt, digits-div, digits-mod}
-use lib.ListN.{getD, length, set}
+use lib.ListN.{getD, length, set, take}
 use lib.Seq.{getD-set-same, getD-set-other}
 use borrow.Author.Count.{below-more}
 use Rattle.lists.specs.Lists.{range, values, all}
@@ -33,6 +33,12 @@ rule-rows f w n p j h l =
 pub length-values : (f : ℕ → ℕ) (n i : ℕ) → length (values f i n) ≡ n
 length-values f zero i = refl
 length-values f (suc n) i = ap suc (length-values f n (suc i))
+
+-- fewer of the values
+pub take-values : (f : ℕ → ℕ) (n m i : ℕ) → n ≤ m → take n (values f i m) ≡ values f i n
+take-values f zero m i h = refl
+take-values f (suc n) zero i h = absurd (not-suc-le-zero h)
+take-values f (suc n) (suc m) i h = ap (λ (l : List ℕ). f i ∷ l) (take-values f n m (suc i) (le-of-suc-le-suc h))
 
 -- a test passed by each of n numbers from a on
 pub passed : (f : ℕ → Bool) (n a k : ℕ) → all f (range a n) ≡ true → a ≤ k → k < a + n → f k ≡ true

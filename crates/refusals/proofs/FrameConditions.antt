@@ -15,7 +15,7 @@ use Rattle.frames.specs.Frame.{frameWrong, frameLength, ringsIn, boardIn}
 use Rattle.frames.proofs.Characters.{board-length, no-three, three-none}
 use Rattle.refusals.specs.Refusals.{table, pickedRows, refusal}
 use Rattle.refusals.specs.Conditions.{valueWrong, countsWrong, boardPicks, framePicks, readPicks}
-use Rattle.refusals.proofs.FirstRefusal.{passes, passed, first-kept, one-more}
+use Rattle.refusals.proofs.FirstRefusal.{meets, passes, passed, first-kept, one-more}
 use Rattle.refusals.proofs.Conditions.{rings-right, values-right, length-fine, values-fine}
 
 -- a value above 2 in two bits is a 3
@@ -52,6 +52,10 @@ accepted-frame f e =
       points = omega (arith, board-length f (p .0));
       values = values-right (boardIn f) (p .1 .1 .1 .0);
     }
+
+-- wrong characters come first
+pub characters-refused : (f : List ℕ) → frameWrong f ≡ true → 14 ≡ refusal (readPicks f)
+characters-refused f e = meets (pickedRows table (readPicks f)) 0 tt e
 
 -- the stones of a frame are counted last
 abbrev pub stonesWrong : List ℕ → Bool

@@ -1,5 +1,5 @@
 -- `morris_c::morris_make_move` meets its contract: the number of what `morris::make_move` answers, and its target. Assumes nothing.
-use mathlib.Core.Path.{_≡_, sym, ap, _∙_}
+use mathlib.Core.Path.{sym, ap, _∙_}
 use borrow.Author.Needs.{needs}
 use Rattle.refusals.specs.Answers.{number}
 use Rattle.morris.specs.MakeMoveCall.{made}

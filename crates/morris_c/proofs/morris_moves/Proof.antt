@@ -1,5 +1,5 @@
 -- `morris_c::morris_moves` meets its contract: the number and the value of what `morris::moves` answers, and its target. Assumes nothing.
-use mathlib.Core.Path.{_≡_, sym, ap, _∙_}
+use mathlib.Core.Path.{sym, ap, _∙_}
 use borrow.Author.Needs.{needs}
 use Rattle.refusals.specs.Answers.{Answer, number, value}
 use Rattle.morris.specs.MovesCall.{listed}

@@ -1,5 +1,5 @@
 -- `morris_c::morris_unrank` meets its contract: the number of what `morris::unrank` answers, and its target. Assumes nothing.
-use mathlib.Core.Path.{_≡_, sym, ap, _∙_}
+use mathlib.Core.Path.{sym, ap, _∙_}
 use borrow.Author.Needs.{needs}
 use Rattle.refusals.specs.Answers.{number}
 use Rattle.morris.specs.UnrankCall.{unranked}
