@@ -2,7 +2,7 @@
 //!
 //! A board is 8 × rings bytes, point 0 first: 0 vacant, 1 the side to move, 2 the other side. Every call answers on every input: its result, or
 //! [`Refused`] with the number of the first refusal that the arguments meet, and then every buffer is as it was (after 13, too deep, the entries to
-//! be filled are [`VOID`]). The crate's `README.md` and `include/morris.h` say the rest.
+//! be filled are [`VOID`]). The repository's `README.md` and `include/morris.h` say the rest.
 //!
 //! What this wrapper adds is checked by rustc and the tests, not proved: that a slice's pointer and length go together, and that no two overlap.
 
