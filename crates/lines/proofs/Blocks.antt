@@ -1,15 +1,15 @@
 -- Lines block by block: what a byte does, a block after a block, and the loop over a block's bytes. Assumes nothing.
-use mathlib.Core.Path.{_≡_, refl, sym, ap, ap₂, _∙_}
+use mathlib.Core.Path.{_≡_, refl, sym, ap, subst, _∙_}
 use mathlib.Core.Bool.{Bool, true, false, cond}
 use mathlib.Core.List.{List, [], _∷_, _++_, append-assoc, append-nil}
 use Prim.Native.Nat.{ℕ, zero, suc, _+_, _*_, _≤_, _<_}
-use native.Mathlib.Nat.{add-zero}
+use native.Mathlib.Nat.{zero-add}
 use native.Mathlib.Omega.{arith}
 use lib.Dec.{eqb}
 use lib.ListN.{length, getD, drop, take, set, length-append, length-take}
-use lib.Seq.{drop-cons, drop-length, sets, length-sets, take-all, take-suc-set, take-append-le}
+use lib.Seq.{drop-cons, drop-length, sets, take-all, take-suc-set, take-append-le}
 use borrow.Author.Tests.{eq-eqb, ne-eqb}
-use Rattle.lists.proofs.Writing.{sets-append}
+use Rattle.lists.proofs.Writing.{Writing, writing-none, writing-all, part-written}
 use Rattle.text.specs.Text.{lineFeed, mostBytes}
 use Rattle.lines.specs.Lines.{mostKept, keep, ended, left, last}
 use Rattle.lines.specs.Answers.{answerOf, answers}
@@ -92,13 +92,11 @@ module _ (tablebase : List ℕ) where
   -- a block's loop: what is left to be done makes of the state what is wanted
   pub record Feeding (block kept₀ out₀ : List ℕ) (i : ℕ) (kept out : List ℕ) (used : ℕ) : Type 0 where
     pub rest : left kept (drop i block) ≡ left kept₀ block
-    pub done : sets out used (answers tablebase (ended kept (drop i block))) ≡ sets out₀ 0 (answers tablebase (ended kept₀ block))
-    pub place : used + length (answers tablebase (ended kept (drop i block))) ≡ length (answers tablebase (ended kept₀ block))
+    pub done : Writing out₀ 0 (answers tablebase (ended kept₀ block)) out used (answers tablebase (ended kept (drop i block)))
     pub within : used ≤ mostBytes * i
-    pub same : length out ≡ length out₀
 
   pub feeding-none : (block kept out : List ℕ) → Feeding block kept out 0 kept out 0
-  feeding-none block kept out = record { rest = refl; done = refl; place = omega arith; within = omega arith; same = refl }
+  feeding-none block kept out = record { rest = refl; done = writing-none out 0 (answers tablebase (ended kept block)); within = omega arith }
 
   module _ {block kept₀ out₀ : List ℕ} {i : ℕ} {kept out : List ℕ} {used : ℕ} (w : Feeding block kept₀ out₀ i kept out used) where
     -- a byte more
@@ -120,10 +118,8 @@ module _ (tablebase : List ℕ) where
         ∙ ap (λ (x : List ℕ). f ++ answers tablebase (ended x (drop (i + 1) block))) (sym e) in
         record {
           rest = sym r ∙ w .rest;
-          done = ap₂ (λ (x : List ℕ) (y : ℕ). sets x y g) o u ∙ sym (sets-append out used f g) ∙ ap (sets out used) (sym a) ∙ w .done;
-          place = omega (arith, w .place, ap length a, length-append f g);
+          done = part-written f g (subst (λ (x : List ℕ). Writing out₀ 0 (answers tablebase (ended kept₀ block)) out used x) a (w .done)) u o;
           within = omega (arith, w .within);
-          same = ap length o ∙ length-sets out used f ∙ w .same;
         }
 
     -- all bytes
@@ -132,4 +128,5 @@ module _ (tablebase : List ℕ) where
     unfolding left ended answers
     feeding-all e =
         let d : drop i block ≡ [] = ap (λ (j : ℕ). drop j block) e ∙ drop-length block in
-        (rw d at (w .rest), sym (add-zero used) ∙ rw d at (w .place), rw d at (w .done))
+        let v = writing-all (rw d at (w .done)) in
+        (rw d at (w .rest), v .1 ∙ zero-add _, v .0)

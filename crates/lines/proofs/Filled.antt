@@ -1,8 +1,8 @@
 -- What a line shows, once the tablebase was filled by an accepted call: the rank of the board; on one ring always an entry, and that the true one; and the
 -- move that is best by the entries, or `-`, and that exactly for a blocked mover. Assumes nothing.
 use mathlib.Core.Path.{_≡_, refl, sym, ap, subst, _∙_}
-use mathlib.Core.Bool.{Bool, true, false, not, cond}
-use mathlib.Core.List.{List, [], _∷_}
+use mathlib.Core.Bool.{true, false, not}
+use mathlib.Core.List.{List, []}
 use Prim.Native.Nat.{ℕ}
 use native.Mathlib.Omega.{arith}
 use lib.ListN.{length}
@@ -14,30 +14,26 @@ use Rattle.frames.specs.Frame.{ringsIn, boardIn}
 use Rattle.outcomes.specs.Whole.{TrueEntry}
 use Rattle.outcomes.specs.Filled.{AllTables}
 use Rattle.outcomes.specs.Order.{TrueEntries}
-use Rattle.outcomes.specs.Places.{entryAt, successorVoid}
-use Rattle.outcomes.proofs.WholeGame.{not-void, board-true}
+use Rattle.outcomes.specs.Places.{entryAt}
 use Rattle.refusals.specs.Refusals.{table, pickedRows, refusal}
-use Rattle.refusals.specs.Conditions.{countAbove, moverBlocked, boardPicks, tablebasePicks, lookupPicks, bestMovePicks, readPicks}
-use Rattle.refusals.specs.Answers.{Answer, accepted, refused, value}
+use Rattle.refusals.specs.Conditions.{countAbove, moverBlocked, boardPicks, tablebasePicks}
+use Rattle.refusals.specs.Answers.{Answer, accepted, value}
 use Rattle.refusals.proofs.FirstRefusal.{passes, passed}
-use Rattle.refusals.proofs.Answering.{answer-refused, answer-accepted, accepted-values}
 use Rattle.refusals.proofs.Conditions.{accepted-board}
 use Rattle.refusals.proofs.FrameConditions.{board-accepted}
-use Rattle.refusals.proofs.TablebaseConditions.{accepted-entry, lookup-decides, best-move-decides}
-use Rattle.morris.specs.ReadFrameCall.{framePosition, readFrameCall}
+use Rattle.morris.specs.ReadFrameCall.{readFrameCall}
 use Rattle.morris.specs.RankCall.{rankCall}
-use Rattle.morris.specs.LookupCall.{lookupCall}
-use Rattle.morris.specs.BestMoveCall.{bestListed, bestMoveCall}
+use Rattle.morris.specs.BestMoveCall.{bestListed}
 use Rattle.morris.specs.Fills.{FillCall}
 use Rattle.morris.proofs.ExactEntries.{fill-accepted}
 use Rattle.morris.proofs.PlayByBest.{best-answered}
+use Rattle.morris.proofs.Answered.{rank-answered, frame-given, entry-true, entry-answered, blocked-answered}
 use Rattle.text.specs.declared.Field.the-variants.{Number, Absent}
 use Rattle.lines.specs.Answers.{largestCount, fieldOf, entryField, moveField}
 
 -- the rank that is shown is the board's
 pub rank-shown : (rings : ℕ) (b : List ℕ) → refusal (boardPicks rings b) ≡ 0 → value (rankCall rings b) 0 ≡ rank b
-unfolding rankCall
-rank-shown rings b e = ap (λ (a : Answer). value a 0) (sym (answer-accepted (refusal (boardPicks rings b)) (rank b ∷ []) (sym e)))
+rank-shown rings b e = ap (λ (a : Answer). value a 0) (rank-answered rings b e)
 
 -- what is shown of a board on one ring
 pub record Shown (tablebase b : List ℕ) : Type 0 where
@@ -66,33 +62,17 @@ module _ (limit : ℕ) (before after : List ℕ) (filled : FillCall 1 largestCou
         sym (passes (pickedRows table (tablebasePicks 1 b largestCount (length after)))
         (p .0, (p .1 .0, (p .1 .1 .0, (p .1 .1 .1 .0, (none-above, (ap not (eq-eqb (length after) (tablebaseLength 8 largestCount) exact), tt)))))))
 
-    is-true : TrueEntry 1 b (entryAt 1 largestCount after b)
-    is-true = board-true 1 largestCount after true-entries b (accepted-entry 1 b largestCount (length after) right .in-tables)
-
-    looked-up : lookupCall 1 b largestCount after ≡ accepted (entryAt 1 largestCount after b ∷ [])
-    unfolding lookupCall
-    looked-up =
-        sym (answer-accepted (refusal (lookupPicks 1 b largestCount after)) _
-        (sym (lookup-decides 1 b largestCount after (sym right) ∙ ap (λ (t : Bool). cond t 12 0) (not-void 1 b (entryAt 1 largestCount after b) is-true))))
-
-    turned-back : moverBlocked 1 b ≡ true → bestMoveCall 1 b largestCount after ≡ refused 9
-    unfolding bestMoveCall
-    turned-back t =
-        sym (answer-refused 9 (refusal (bestMovePicks 1 b largestCount after)) _ (λ z. absurd (omega arith))
-        (sym (best-move-decides 1 b largestCount after (sym right) ∙ ap (λ (s : Bool). cond s 9 (cond (successorVoid 1 largestCount after b) 12 0)) t)))
-
     pub board-shown : Shown after b
     unfolding entryField moveField
     board-shown = record {
-      entry = ap fieldOf looked-up;
-      entry-true = is-true;
-      blocked = λ t. ap fieldOf (turned-back t);
+      entry = ap fieldOf (entry-answered 1 largestCount after true-entries b right);
+      entry-true = entry-true 1 largestCount after true-entries b right;
+      blocked = λ t. ap fieldOf (blocked-answered 1 largestCount after true-entries b right t);
       free = λ t. ap fieldOf (best-answered 1 largestCount after true-entries b right t);
     }
 
   -- a line that is read as a position on one ring
   pub line-shown : (line vs : List ℕ) → accepted vs ≡ readFrameCall line → ringsIn line ≡ 1 → Shown after (boardIn line)
-  unfolding readFrameCall
   line-shown line vs e r =
-      let z = accepted-values vs (framePosition line) (refusal (readPicks line)) e .0 in
-      board-shown (boardIn line) (subst (λ (n : ℕ). refusal (boardPicks n (boardIn line)) ≡ 0) r (board-accepted line z))
+      board-shown (boardIn line)
+      (subst (λ (n : ℕ). refusal (boardPicks n (boardIn line)) ≡ 0) r (board-accepted line (frame-given line vs e .0)))

@@ -3,7 +3,7 @@
 use mathlib.Core.Path.{_≡_, refl, sym, ap, ap₂, _∙_}
 use mathlib.Core.Bool.{Bool, true, false}
 use mathlib.Core.List.{List, [], _∷_}
-use Prim.Native.Nat.{ℕ, _*_, _≤_, _<_}
+use Prim.Native.Nat.{ℕ, _*_, _≤_}
 use native.Mathlib.Omega.{arith}
 use lib.Dec.{ltb}
 use lib.ListN.{length, take, length-take}
@@ -12,16 +12,16 @@ use borrow.Author.Tests.{ltb-true, ltb-false}
 use Rattle.board.specs.declared.position.Position.{Position}
 use Rattle.board.specs.Board.{positionOf, boardOf}
 use Rattle.board.proofs.Sides.{take-board, position-sides}
-use Rattle.frames.specs.Frame.{mostCharacters, ringsIn, boardIn}
+use Rattle.frames.specs.Frame.{ringsIn, boardIn}
 use Rattle.frames.proofs.Characters.{long-wrong}
 use Rattle.refusals.specs.Refusals.{refusal}
 use Rattle.refusals.specs.Conditions.{readPicks}
 use Rattle.refusals.specs.Answers.{accepted, refused}
-use Rattle.refusals.proofs.Answering.{answer-refused, accepted-values}
 use Rattle.refusals.proofs.Conditions.{Accepted, accepted-board}
-use Rattle.refusals.proofs.FrameConditions.{characters-refused, board-accepted}
+use Rattle.refusals.proofs.FrameConditions.{board-accepted}
 use Rattle.morris.specs.ReadFrameCall.{framePosition, readFrameCall}
 use Rattle.morris.proofs.Positions.{position-back}
+use Rattle.morris.proofs.Answered.{frame-given, frame-turned}
 use Rattle.text.specs.Text.{refusedLine}
 use Rattle.lines.specs.Lines.{mostKept}
 use Rattle.lines.specs.Answers.{boardLine, frameLine, answerOf}
@@ -35,8 +35,7 @@ module _ (tablebase line : List ℕ) where
   -- a position: the rings are few, and the sets stand for the frame's board
   module _ (rings m o : ℕ) (e : accepted (rings ∷ m ∷ o ∷ []) ≡ readFrameCall line) where
     given : (refusal (readPicks line) ≡ 0) × (rings ∷ m ∷ o ∷ [] ≡ framePosition line)
-    unfolding readFrameCall
-    given = accepted-values (rings ∷ m ∷ o ∷ []) (framePosition line) (refusal (readPicks line)) e
+    given = frame-given line (rings ∷ m ∷ o ∷ []) e
 
     is-board : Accepted (ringsIn line) (boardIn line)
     is-board = accepted-board (ringsIn line) (boardIn line) (board-accepted line (given .0))
@@ -60,11 +59,6 @@ module _ (tablebase line : List ℕ) where
     unfolding answerOf
     line-board b q = ap₂ (boardLine tablebase) same-rings (q ∙ frame-board) ∙ ap (frameLine tablebase line) e
 
-  -- over 64 characters
-  long-refused : mostCharacters < length line → readFrameCall line ≡ refused 14
-  unfolding readFrameCall
-  long-refused h = sym (answer-refused 14 (refusal (readPicks line)) (framePosition line) (λ z. absurd (omega arith)) (characters-refused line (long-wrong line h)))
-
 -- a line and its first 65 bytes have one answer
 pub first-decide : (tablebase line : List ℕ) → answerOf tablebase (take mostKept line) ≡ answerOf tablebase line
 unfolding answerOf
@@ -74,6 +68,6 @@ first-decide tablebase line = go (ltb mostKept (length line)) refl
         → frameLine tablebase (take mostKept line) (readFrameCall (take mostKept line)) ≡ frameLine tablebase line (readFrameCall line)
     go true e =
         let l = ltb-true mostKept (length line) e in
-        ap (frameLine tablebase (take mostKept line)) (long-refused tablebase (take mostKept line) (omega (arith, length-take mostKept line)))
-        ∙ sym (ap (frameLine tablebase line) (long-refused tablebase line (omega arith)))
+        ap (frameLine tablebase (take mostKept line)) (frame-turned (take mostKept line) (long-wrong (take mostKept line) (omega (arith, length-take mostKept line))))
+        ∙ sym (ap (frameLine tablebase line) (frame-turned line (long-wrong line (omega arith))))
     go false e = ap (λ (l : List ℕ). frameLine tablebase l (readFrameCall l)) (take-all mostKept line (ltb-false mostKept (length line) e))

@@ -16,7 +16,7 @@ use Rattle.text.specs.declared.Field.{Field}
 use Rattle.text.specs.declared.Field.the-variants.{Number, Absent}
 use Rattle.text.specs.Text.{positionLine, refusedLine}
 
--- "the one-ring shelf (K 5, ..)"
+-- the largest count of the tablebase that is filled (document 01: "the one-ring shelf (K 5, ..)")
 abbrev pub largestCount : ℕ
 largestCount = 5
 

@@ -39,3 +39,15 @@ module _ {old : List ℕ} {start : ℕ} {whole l : List ℕ} {k : ℕ} where
   -- nothing is left
   pub writing-all : Writing old start whole l k [] → (l ≡ sets old start whole) × (k ≡ start + length whole)
   writing-all w = (w .same, omega (arith, w .place))
+
+-- the same for who knows what was written by an equation
+module _ {old : List ℕ} {start : ℕ} {whole l : List ℕ} {k : ℕ} {l′ : List ℕ} {k′ : ℕ} where
+  -- a part is written, and the rest is left
+  pub part-written : (xs rest : List ℕ) → Writing old start whole l k (xs ++ rest) → k′ ≡ k + length xs → l′ ≡ sets l k xs
+      → Writing old start whole l′ k′ rest
+  part-written xs rest w e d = rw (e, d) (writing-part xs rest w)
+
+  -- the last part is written
+  pub last-written : (xs : List ℕ) → Writing old start whole l k xs → k′ ≡ k + length xs → l′ ≡ sets l k xs
+      → (k′ ≡ start + length whole) × (l′ ≡ sets old start whole)
+  last-written xs w e d = (e ∙ w .place, d ∙ w .same)

@@ -7,5 +7,6 @@ pub mod FrameRoundTrip
 pub mod FrameCases
 pub mod OneClass
 pub mod Starred
+pub mod Answered
 pub mod Promised
 pub mod ExactEntries

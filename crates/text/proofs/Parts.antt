@@ -3,9 +3,8 @@ use mathlib.Core.Path.{_≡_, sym, ap, ap₂, _∙_}
 use mathlib.Core.List.{List, [], _∷_, _++_}
 use Prim.Native.Nat.{ℕ, suc, _+_, _<_}
 use native.Mathlib.Omega.{arith}
-use lib.ListN.{length, getD, drop, set, length-append}
-use lib.Seq.{drop-cons, sets, length-sets}
-use Rattle.lists.proofs.Writing.{Writing, sets-append}
+use lib.ListN.{length, getD, drop, set}
+use lib.Seq.{drop-cons, sets}
 use Rattle.text.specs.declared.Field.{Field}
 use Rattle.text.specs.declared.Field.the-variants.{Number, Absent}
 use Rattle.text.specs.Text.{decimal, dash, shown, item}
@@ -19,21 +18,6 @@ sets-step l xs at i h =
     sym
     (ap (λ (r : List ℕ). sets l (at + i) r) (drop-cons xs i 0 h)
     ∙ ap₂ (λ (j k : ℕ). sets (set l (at + i) (getD xs i 0)) j (drop k xs)) e f)
-
-module _ {old : List ℕ} {start : ℕ} {whole l : List ℕ} {k : ℕ} {l′ : List ℕ} {k′ : ℕ} where
-  -- a part is written, and the rest is left
-  pub part-written : (xs rest : List ℕ) → Writing old start whole l k (xs ++ rest) → k′ ≡ k + length xs → l′ ≡ sets l k xs
-      → Writing old start whole l′ k′ rest
-  part-written xs rest w e d = record {
-    same = ap₂ (λ (x : List ℕ) (y : ℕ). sets x y rest) d e ∙ sym (sets-append l k xs rest) ∙ w .same;
-    place = omega (arith, w .place, length-append xs rest);
-    long = ap length d ∙ length-sets l k xs ∙ w .long;
-  }
-
-  -- the last part is written
-  pub last-written : (xs : List ℕ) → Writing old start whole l k xs → k′ ≡ k + length xs → l′ ≡ sets l k xs
-      → (k′ ≡ start + length whole) × (l′ ≡ sets old start whole)
-  last-written xs w e d = (e ∙ w .place, d ∙ w .same)
 
 -- the two items: of a number, and of none
 pub item-number : (field : Field) (n after : ℕ) → field ≡ Number n → item field after ≡ decimal n ++ (after ∷ [])

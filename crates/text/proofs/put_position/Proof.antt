@@ -2,10 +2,9 @@
 use mathlib.Core.List.{_++_}
 use native.Mathlib.Omega.{arith}
 use borrow.Author.Needs.{needs}
-use Rattle.lists.proofs.Writing.{writing-none}
+use Rattle.lists.proofs.Writing.{writing-none, part-written, last-written}
 use Rattle.text.specs.declared.Field.the-variants.{Number}
 use Rattle.text.specs.Text.{space, lineFeed, item, positionLine}
-use Rattle.text.proofs.Parts.{part-written, last-written}
 use Rattle.text.proofs.put_position.Statement.{statement}
 use Rattle.text.proofs.put_position.Tie as tie
 

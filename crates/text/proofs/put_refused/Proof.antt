@@ -1,10 +1,9 @@
 -- `text::put_refused` meets its contract: the word, then the number. Assumes nothing.
 use native.Mathlib.Omega.{arith}
 use borrow.Author.Needs.{needs}
-use Rattle.lists.proofs.Writing.{writing-none}
+use Rattle.lists.proofs.Writing.{writing-none, part-written, last-written}
 use Rattle.text.specs.declared.Field.the-variants.{Number}
 use Rattle.text.specs.Text.{lineFeed, item, refusedWord, refusedLine}
-use Rattle.text.proofs.Parts.{part-written, last-written}
 use Rattle.text.proofs.put_refused.Statement.{statement}
 use Rattle.text.proofs.put_refused.Tie as tie
 

@@ -28,7 +28,7 @@ step-requires : tie.Need-step-requires Inv-loop μ-loop
 step-requires c κs =
     let x = c .before .before .before .before in
     let w = x .loop .inv .3 in
-    ((x .loop .inv .1, x .loop .inv .2), omega (arith, w .within, w .same))
+    ((x .loop .inv .1, x .loop .inv .2), omega (arith, w .within, w .done .long))
 
 add-i : tie.Need-add-i Inv-loop μ-loop
 add-i c = omega arith
@@ -50,14 +50,14 @@ same-length : tie.Need-same-length Inv-loop μ-loop
 same-length c = c .before .loop .inv .1 ∙ sym (c .before .before .before .before .before .before .pre .0 .0)
 
 same-length-2 : tie.Need-same-length-2 Inv-loop μ-loop
-same-length-2 c = c .before .loop .inv .3 .same
+same-length-2 c = c .before .loop .inv .3 .done .long
 
 returns : tie.Need-returns Inv-loop μ-loop
 returns c =
     let x = c .before in
     let w = x .loop .inv .3 in
     let f = feeding-all (x .before .before .before .before .before .args .tablebase .now) w (omega arith) in
-    let l : x .loop .used ≤ length (x .loop .out) = omega (arith, w .within, w .same) in
+    let l : x .loop .used ≤ length (x .loop .out) = omega (arith, w .within, w .done .long) in
     ((x .loop .inv .1, x .loop .inv .2), (f .0, (f .1, ((l, sym (length-take-le (x .loop .used) (x .loop .out) l)), f .2))))
 
 pub feed-spec : {M : Type 1} → statement M
