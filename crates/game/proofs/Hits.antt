@@ -1,14 +1,14 @@
 -- Where a table holds every depth below n, what level n hits has ended within n, and what has depth n is hit; and what a visit writes.
 -- Assumes nothing.
-use mathlib.Core.Path.{_≡_, refl, sym, _∙_, subst}
-use mathlib.Core.Bool.{Bool, true, false, _&&_}
-use mathlib.Core.List.{List, List·Memᴰ}
+use mathlib.Core.Path.{_≡_, refl, sym, ap, _∙_, subst}
+use mathlib.Core.Bool.{Bool, true, false, _&&_, and-false}
+use mathlib.Core.List.{List, [], _∷_, List·Memᴰ}
 use mathlib.Core.Logic.{_⊎_, inl, inr}
 use Prim.Native.Nat.{ℕ, zero, suc, _<_, _%_}
 use native.Mathlib.Omega.{arith}
 use lib.Dec.{ltb, eqb}
-use borrow.Author.Tests.{ltb-true, eqb-true, eqb-false, lt-ltb, eq-eqb, ne-eqb}
-use Rattle.lists.specs.Lists.{any, all}
+use borrow.Author.Tests.{ltb-true, eqb-true, eqb-false, lt-ltb, le-ltb, eq-eqb, ne-eqb}
+use Rattle.lists.specs.Lists.{any, all, isEmpty}
 use Rattle.lists.proofs.Tests.{and-left, and-right, and-both, any-member, member-any, all-member, member-all}
 use Rattle.game.specs.Game.{Seed, live, won, ended, WonIn, LostIn, Depth, drawEntry}
 use Rattle.game.specs.Judgement.{hit, visit}
@@ -45,6 +45,15 @@ module _ {Pos : Type 0} (next : Pos → List Pos) (t : Pos → ℕ) (n : ℕ) (p
 
   pub visit-known : t p < drawEntry → visit next t n p ≡ t p
   visit-known l = visit-closed (λ h. omega arith)
+
+-- level 0 hits what has no ply
+pub hit-zero : {Pos : Type 0} (next : Pos → List Pos) (t : Pos → ℕ) (p : Pos) → hit next t 0 p ≡ isEmpty (next p)
+hit-zero {Pos} next t p = hit-even next t 0 p refl ∙ go (next p)
+  where
+    go : (l : List Pos) → all (λ q. eqb (t q % 2) 1 && ltb (t q) 0) l ≡ isEmpty l
+    go [] = refl
+    go (q ∷ l) = ap (λ (b : Bool). elim b as (λ c. Bool) [ true ↦ all (λ x. eqb (t x % 2) 1 && ltb (t x) 0) l | false ↦ false ])
+        (ap (λ (b : Bool). eqb (t q % 2) 1 && b) (le-ltb (t q) 0 (omega arith)) ∙ and-false (eqb (t q % 2) 1))
 
 module _ {Pos : Type 0} (next : Pos → List Pos) (seed : Pos → Seed) (S : Pos → Type 0) (g : Ground next seed S) (t : Pos → ℕ) where
   -- what level n hits has ended within n

@@ -52,6 +52,10 @@ module _ {Pos : Type 0} (next : Pos → List Pos) (seed : Pos → Seed) (S : Pos
   pub level-start : (t : Pos → ℕ) (n : ℕ) → Exact t n → Within t n (λ p. ⊥)
   level-start t n x = record { seeds = x .seeds; low = x .low; fresh = λ p s e o. inl (x .blank p s e o); done = λ p s e d. absurd d }
 
+  -- fewer positions are done
+  pub within-fewer : (t : Pos → ℕ) (n : ℕ) (D E : Pos → Type 0) → ((p : Pos) → E p → D p) → Within t n D → Within t n E
+  within-fewer t n D E f w = record { seeds = w .seeds; low = w .low; fresh = w .fresh; done = λ p s e d x. w .done p s e (f p d) x }
+
   -- in the middle of level n, and before, a table holds every depth below n
   module _ (g : Ground next seed S) (n : ℕ) (b : n ≤ voidEntry) where
     within-upto : (t : Pos → ℕ) (D : Pos → Type 0) → Within t n D → Upto next seed S t n
@@ -76,8 +80,15 @@ module _ {Pos : Type 0} (next : Pos → List Pos) (seed : Pos → Seed) (S : Pos
         complete q s k l d (inl e) = w .low q s e k l d
         complete q s k l d (inr a) = depth-entry next seed q a d .0
 
-    exact-upto : (t : Pos → ℕ) → Exact t n → Upto next seed S t n
+    pub exact-upto : (t : Pos → ℕ) → Exact t n → Upto next seed S t n
     exact-upto t x = within-upto t (λ p. ⊥) (level-start t n x)
+
+  -- what level n + 1 must visit: only positions with a successor whose entry is n, also in the middle of that level
+  pub sources : (g : Ground next seed S) (n : ℕ) → suc n ≤ voidEntry → (t : Pos → ℕ) (D : Pos → Type 0) → Within t (suc n) D
+      → (p : Pos) → S p → seed p ≡ live → Depth next seed (suc n) p → (q : Pos) × List·Memᴰ q (next p) × (t q ≡ n)
+  sources g n b t D w p s e d =
+      let (q, m, y) = depth-step next seed n p e d in
+      (q, m, within-upto g (suc n) b t D w .complete q (g .closed p s e q m) n (omega arith) y)
 
   -- level n, where it is an entry
   module _ (g : Ground next seed S) (n : ℕ) (b : n < voidEntry) where
@@ -221,11 +232,6 @@ module _ {Pos : Type 0} (next : Pos → List Pos) (seed : Pos → Seed) (S : Pos
             let i = ltb-false n j f in
             let a = exact-upto g (suc n) b t x .complete q r j (omega arith) y in
             (q, r, omega arith, omega arith, omega arith)
-
-    -- what level n + 1 must visit: only positions with a successor whose entry is n
-    pub sources : (p : Pos) → S p → seed p ≡ live → Depth next seed (suc n) p → (q : Pos) × List·Memᴰ q (next p) × (t q ≡ n)
-    sources p s e d =
-        let (q, m, y) = depth-step next seed n p e d in (q, m, exact-upto g (suc n) b t x .complete q (g .closed p s e q m) n (omega arith) y)
 
     -- levels can be passed over where no entry from n on occurs below them
     pub skip : (m : ℕ) → n ≤ m → ((q : Pos) → S q → n ≤ t q → t q < m → ⊥) → Exact t (suc m)

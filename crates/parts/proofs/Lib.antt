@@ -1,3 +1,4 @@
 pub mod Down
 pub mod Filling
 pub mod LeastDepth
+pub mod Occurs

@@ -1,10 +1,15 @@
 // One table's part of a tablebase: the places from its start on and below its end. The function that writes entries is lent that part alone.
+mod finding;
+
+pub use finding::find;
+
 ghost use mathlib.Core.Path.{_≡_};
+ghost use mathlib.Core.Bool.{true, false};
 ghost use Prim.Native.Nat.{_+_, _≤_, _<_};
 ghost use lib.Dec.{eqb};
-ghost use lib.ListN.{length, set, replicate};
+ghost use lib.ListN.{length, getD, set, replicate};
 ghost use Rattle.lists.specs.Lists.{any};
-ghost use Rattle.game.specs.Game.{voidEntry};
+ghost use Rattle.game.specs.Game.{drawEntry, voidEntry};
 ghost use Rattle.parts.specs.Parts.{partOf, filledPart, lower, leastFrom};
 
 // The entry of a draw, and of a position that is open while its table is filled.
@@ -32,6 +37,19 @@ fn write(part: &mut [u16], r: usize, v: u16)
     part[r] = v;
 }
 
+// The entry at place r of a part is void, if the place was open.
+fn mark(part: &mut [u16], r: usize)
+    requires { ⌜ r < length (now part) ⌝ }
+    ensures { λ _. ⌜ now (part .exit) ≡ elim (eqb (getD (now (part .entry)) r 0) drawEntry) [
+        | true ↦ set (now (part .entry)) r voidEntry
+        | false ↦ now (part .entry)
+    ] ⌝ }
+{
+    if part[r] == DRAW {
+        part[r] = VOID;
+    }
+}
+
 // Fills a table with one value.
 pub fn fill_table(tablebase: &mut [u16], start: usize, end: usize, v: u16)
     requires { ⌜ (start ≤ end) × (end ≤ length (now tablebase)) ⌝ }
@@ -46,6 +64,17 @@ pub fn write_entry(tablebase: &mut [u16], start: usize, end: usize, r: usize, v:
     ensures { λ _. ⌜ now (tablebase .exit) ≡ set (now (tablebase .entry)) (start + r) v ⌝ }
 {
     write(&mut tablebase[start..end], r, v);
+}
+
+// Marks the entry of rank r of a table by void, if it is open.
+pub fn mark_entry(tablebase: &mut [u16], start: usize, end: usize, r: usize)
+    requires { ⌜ (start + r < end) × (end ≤ length (now tablebase)) ⌝ }
+    ensures { λ _. ⌜ now (tablebase .exit) ≡ elim (eqb (getD (now (tablebase .entry)) (start + r) 0) drawEntry) [
+        | true ↦ set (now (tablebase .entry)) (start + r) voidEntry
+        | false ↦ now (tablebase .entry)
+    ] ⌝ }
+{
+    mark(&mut tablebase[start..end], r);
 }
 
 // The lower of two entries, if the second is not below `low`.

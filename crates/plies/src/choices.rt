@@ -13,7 +13,7 @@ ghost use Rattle.plies.specs.Positions.{Placed, Slide};
 const NO_REMOVAL: u32 = 2147483648;
 
 // Whether a point stands in a full mill of a set: a count of three decides.
-fn in_mill(rings: usize, mills: &[u32; 48], s: u32, p: usize) -> bool
+pub fn in_mill(rings: usize, mills: &[u32; 48], s: u32, p: usize) -> bool
     requires { ⌜ MillMasks rings (now mills) ⌝ }
     requires { ⌜ (rings ≤ 3) × (p < 24) ⌝ }
     ensures { λ r. ⌜ r ≡ inMill rings (λ q. has s q) p ⌝ }

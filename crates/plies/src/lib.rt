@@ -1,9 +1,12 @@
 // Plies: the moves of a position, and the position after one.
+mod blocking;
 mod choices;
 mod listing;
 mod making;
 mod masks;
 
+pub use blocking::blocked;
+pub use choices::in_mill;
 pub use choices::removals;
 pub use choices::targets;
 pub use listing::count_moves;

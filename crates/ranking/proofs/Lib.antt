@@ -1,3 +1,11 @@
 pub mod Reading
 pub mod Inverse
 pub mod Steps
+pub mod Digits
+pub mod Stones
+pub mod OnSets
+pub mod Extremes
+pub mod Following
+pub mod Parts
+pub mod Descents
+pub mod NextPosition

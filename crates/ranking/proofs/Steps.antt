@@ -53,7 +53,7 @@ pub record Ranking (b : List ℕ) (i m o r : ℕ) : Type 0 where
   pub opponent : o ≡ count 2 (take i b)
   pub rank-is : r ≡ rank (take i b)
 
-rank-none : rank [] ≡ 0
+pub rank-none : rank [] ≡ 0
 unfolding rank
 rank-none = rank-nil
 

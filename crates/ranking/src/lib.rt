@@ -1,12 +1,19 @@
 // The rank of a position, and the position of a rank.
 ghost use mathlib.Core.Path.{_≡_};
-ghost use Prim.Native.Nat.{_≤_, _<_};
-ghost use Rattle.board.specs.Board.{boardOf, positionOf, OnBoard};
+ghost use Prim.Native.Nat.{suc, _+_, _-_, _≤_, _<_};
+ghost use Rattle.sets.specs.Sets.{without, lowest};
+ghost use Rattle.board.specs.Board.{digit, boardOf, positionOf, OnBoard};
 ghost use Rattle.sizes.specs.Size.{size};
 ghost use Rattle.sizes.specs.Binomial.{BinomialTable};
 ghost use Rattle.ranking.specs.Rank.{rank};
 ghost use Rattle.ranking.specs.Unrank.{below, topValue, unrank};
+ghost use Rattle.ranking.specs.Choice.{choice};
+
+mod stepping;
+
 use board::Position;
+pub use stepping::advance;
+pub use stepping::next;
 
 // With m and o stones on n + 1 points, how many boards have a lower value than x at the highest point.
 fn below(binomials: &[u32; 625], x: u8, n: usize, m: usize, o: usize) -> usize
@@ -27,22 +34,52 @@ fn below(binomials: &[u32; 625], x: u8, n: usize, m: usize, o: usize) -> usize
     vacant + sizes::size(binomials, n, m - 1, o)
 }
 
-// The rank of a position's board. The points come from the lowest up, so the counts so far are those of the board's part.
+// One of two numbers. Short enough for a conditional move: a branch on whose stone it is would be mispredicted half the time.
+fn choose(test: bool, a: usize, b: usize) -> usize
+    ensures { λ r. ⌜ r ≡ choice test a b ⌝ }
+{
+    if test {
+        return a;
+    }
+    b
+}
+
+// What a stone at p adds to the rank, the opponent's or the mover's, with so many stones at the points up to p of which o are the opponent's: the
+// boards that have a lower value there, as one product of two binomials.
+fn contribution(binomials: &[u32; 625], theirs: bool, p: usize, stones: usize, o: usize) -> usize
+    requires { ⌜ BinomialTable (now binomials) ⌝ }
+    requires { ⌜ (p < 24) × (o ≤ stones) × (stones ≤ p + 1) ⌝ }
+    ensures { λ r. ⌜ r ≡ below (suc (digit theirs)) p (stones - o) o ⌝ }
+{
+    sizes::binomial(binomials, p, choose(theirs, o, stones))
+        * sizes::binomial(binomials, choose(theirs, p + 1 - o, stones), stones - o)
+}
+
+// A set without its least member.
+fn without_lowest(s: u32) -> u32
+    requires { ⌜ (s ≡ 0 → ⊥) ⌝ }
+    ensures { λ r. ⌜ r ≡ without s (lowest s) ⌝ }
+{
+    s & (s - 1)
+}
+
+// The rank of a position's board. The stones come from the lowest up, so the counts so far are those of the board's part; vacant points add nothing.
 pub fn rank(binomials: &[u32; 625], points: usize, position: Position) -> usize
     requires { ⌜ BinomialTable (now binomials) ⌝ }
     requires { ⌜ (points ≤ 24) × OnBoard points position ⌝ }
     ensures { λ r. ⌜ r ≡ rank (boardOf points position) ⌝ }
 {
-    let mut m: usize = 0;
+    let mut stones: usize = 0;
     let mut o: usize = 0;
     let mut r: usize = 0;
-    let mut i: usize = 0;
-    while i < points {
-        let x = board::value_at(position, i);
-        m += (x == 1) as usize;
-        o += (x == 2) as usize;
-        r += below(binomials, x, i, m, o);
-        i += 1;
+    let mut left = position.mover | position.opponent;
+    while left != 0 {
+        let p = sets::lowest(left);
+        let theirs = sets::has(position.opponent, p);
+        stones += 1;
+        o += theirs as usize;
+        r += contribution(binomials, theirs, p, stones, o);
+        left = without_lowest(left);
     }
     r
 }

@@ -17,19 +17,19 @@ use Rattle.rules.specs.Ply.{slide, noRemoval, moveNumber, fromOf, toOf, 
 use Rattle.rules.proofs.Listed.{Move, Listed, move-of, removal-cases, successor-of, TakesOpponent}
 
 -- a store moves one unit from the old value's count to the new one's
-count-set : (v : ℕ) (b : List ℕ) (p x : ℕ) → p < length b → count v (set b p x) + digit (eqb (getD b p 0) v) ≡ count v b + digit (eqb x v)
+pub count-set : (v : ℕ) (b : List ℕ) (p x : ℕ) → p < length b → count v (set b p x) + digit (eqb (getD b p 0) v) ≡ count v b + digit (eqb x v)
 count-set v [] p x h = absurd (not-suc-le-zero h)
 count-set v (y ∷ b) zero x h = omega (arith, more-digit (eqb x v) (count v b), more-digit (eqb y v) (count v b))
 count-set v (y ∷ b) (suc p) x h =
     omega (arith, count-set v b p x (le-of-suc-le-suc h), more-digit (eqb y v) (count v (set b p x)), more-digit (eqb y v) (count v b))
 
-values-set : (b : List ℕ) (p x : ℕ) → x ≤ 2 → Values b → Values (set b p x)
+pub values-set : (b : List ℕ) (p x : ℕ) → x ≤ 2 → Values b → Values (set b p x)
 values-set [] p x h v = tt
 values-set (y ∷ b) zero x h v = (h, v .1)
 values-set (y ∷ b) (suc p) x h v = (v .0, values-set b p x h (v .1))
 
 -- the sides change names
-exchange-counts : (b : List ℕ) → Values b → (count 1 (map (λ v. exchange v) b) ≡ count 2 b) × (count 2 (map (λ v. exchange v) b) ≡ count 1 b)
+pub exchange-counts : (b : List ℕ) → Values b → (count 1 (map (λ v. exchange v) b) ≡ count 2 b) × (count 2 (map (λ v. exchange v) b) ≡ count 1 b)
 unfolding exchange
 exchange-counts [] h = (refl, refl)
 exchange-counts (zero ∷ b) h = exchange-counts b (h .1)
@@ -37,7 +37,7 @@ exchange-counts (suc zero ∷ b) h = let s = exchange-counts b (h .1) in (s .0, 
 exchange-counts (suc (suc zero) ∷ b) h = let s = exchange-counts b (h .1) in (ap suc (s .0), s .1)
 exchange-counts (suc (suc (suc v)) ∷ b) h = absurd (omega arith)
 
-exchange-values : (b : List ℕ) → Values (map (λ v. exchange v) b)
+pub exchange-values : (b : List ℕ) → Values (map (λ v. exchange v) b)
 unfolding exchange
 exchange-values [] = tt
 exchange-values (zero ∷ b) = (omega arith, exchange-values b)
@@ -75,10 +75,14 @@ pub exchange-at : (b : List ℕ) (p : ℕ) → getD (map (λ v. exchange v) b) p
 unfolding exchange
 exchange-at b p = List·getD-map (λ v. exchange v) b p 0
 
--- a slide keeps the points
+-- a slide keeps the points and their values
 pub slide-length : (b : List ℕ) (from to : ℕ) → length (slide b from to) ≡ length b
 unfolding slide
 slide-length b from to = length-set (set b from 0) to 1 ∙ length-set b from 0
+
+pub slide-values : (b : List ℕ) (from to : ℕ) → Values b → Values (slide b from to)
+unfolding slide
+slide-values b from to d = values-set (set b from 0) to 1 (omega arith) (values-set b from 0 (omega arith) d)
 
 pub after-length : (b : List ℕ) (n : ℕ) → length (afterPly b n) ≡ length b
 unfolding afterPly
@@ -144,11 +148,11 @@ exchanged b c removed w = let s = exchange-counts c (w .values) in
 
 pub removed-before : (b : List ℕ) (from to r : ℕ) → from < length b → to < length b → getD b from 0 ≡ 1 → getD b to 0 ≡ 0 → Values b
     → Removed (slide b from to) r → Before b (remove (slide b from to) r) r
-unfolding slide remove
+unfolding remove
 removed-before b from to r hf ht own vacant d g = go g
   where
     dc : Values (slide b from to)
-    dc = values-set (set b from 0) to 1 (omega arith) (values-set b from 0 (omega arith) d)
+    dc = slide-values b from to d
 
     n : (count 1 (slide b from to) ≡ count 1 b) × (count 2 (slide b from to) ≡ count 2 b)
     n = slide-counts b from to hf ht own vacant

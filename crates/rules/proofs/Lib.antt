@@ -1,5 +1,6 @@
 pub mod Boards
 pub mod Bound
+pub mod Found
 pub mod Leads
 pub mod Listed
 pub mod Mills

@@ -1,1 +1,2 @@
 pub mod Ply
+pub mod Predecessors

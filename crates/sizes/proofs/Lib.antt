@@ -1,2 +1,3 @@
 pub mod Binomials
 pub mod Multinomials
+pub mod Products

@@ -39,7 +39,7 @@ fn wide(x: u32) -> usize
 }
 
 // The binomial of row n and column k.
-fn binomial(binomials: &[u32; 625], n: usize, k: usize) -> usize
+pub fn binomial(binomials: &[u32; 625], n: usize, k: usize) -> usize
     requires { ⌜ BinomialTable (now binomials) ⌝ }
     requires { ⌜ (n < 25) × (k < 25) ⌝ }
     ensures { λ r. ⌜ r ≡ binomial n k ⌝ }

@@ -13,7 +13,7 @@ use Rattle.lists.proofs.Tests.{clash, and-left, and-right}
 use Rattle.sizes.specs.Size.{size}
 use Rattle.ranking.specs.Unrank.{unrank}
 use Rattle.layout.specs.Layout.{start}
-use Rattle.game.specs.Game.{drawEntry, voidEntry, ended, Entry}
+use Rattle.game.specs.Game.{Seed, drawEntry, voidEntry, ended, Entry}
 use Rattle.game.specs.Judgement.{decided}
 use Rattle.game.proofs.Least.{mono-le}
 use Rattle.game.proofs.Within.{ended-mono}
@@ -21,7 +21,7 @@ use Rattle.game.proofs.Levels.{beyond, settled}
 use Rattle.outcomes.specs.Places.{entryAt, successorEntry}
 use Rattle.outcomes.specs.Whole.{next}
 use Rattle.outcomes.specs.Pair.{pairSeed, LowerValid}
-use Rattle.outcomes.specs.Filled.{BothTables, Filled, TooDeep}
+use Rattle.outcomes.specs.Filled.{BothTables, Kept, Filled, TooDeep}
 use Rattle.outcomes.proofs.Ranked.{unrank-in}
 use Rattle.outcomes.proofs.PairGame.{OnPair, InPair, on-pair, pair-table}
 use Rattle.outcomes.proofs.Entries.{entry-unrank, kept-then}
@@ -34,6 +34,38 @@ use Rattle.sweeping.proofs.Visits.{Side, decided-is}
 use Rattle.solver.proofs.Parts.{first-side, second-side, pair-kept, pair-filled}
 use Rattle.solver.proofs.States.{State, Rank, in-first, in-second, rank-of}
 use Rattle.solver.proofs.NextLevel.{setting-now}
+
+-- some position of the tables of T has a forced end beyond the limit
+pub record Deep (rings k limit : ℕ) (T : ℕ → ℕ → Type 0) (seed : List ℕ → Seed) : Type 0 where
+  pub mover : ℕ
+  pub opponent : ℕ
+  pub rank : ℕ
+  pub in-table : T mover opponent
+  pub rank-low : rank < size (8 * rings) mover opponent
+  pub plies : ℕ
+  pub forced : ended (next rings) seed plies (unrank (8 * rings) mover opponent rank) ≡ true
+  pub beyond : ended (next rings) seed limit (unrank (8 * rings) mover opponent rank) ≡ false
+
+-- then both tables are left void
+pub voided : (rings k m o : ℕ) (a b : Table) (before now after : List ℕ) → Setting (length before) rings k m o a b → Kept rings k (BothTables m o) before now
+    → (limit : ℕ) (seed : List ℕ → Seed) → Deep rings k limit (BothTables m o) seed → after ≡ pairFilled a b voidEntry now
+    → TooDeep rings k limit (BothTables m o) seed before after
+voided rings k m o a b before now after s kept limit seed d e = subst (TooDeep rings k limit (BothTables m o) seed before) (sym e) record {
+  kept = kept-then rings k (BothTables m o) before now (pairFilled a b voidEntry now) kept (pair-kept rings k m o a b now here voidEntry);
+  void = λ x y r t l. sym (entry-unrank rings k x y r (pairFilled a b voidEntry now) l)
+      ∙ pair-filled rings k m o a b now here voidEntry (unrank (8 * rings) x y r) (pair-table t (unrank-in rings x y r l));
+  mover = d .mover;
+  opponent = d .opponent;
+  rank = d .rank;
+  in-table = d .in-table;
+  rank-low = d .rank-low;
+  plies = d .plies;
+  forced = d .forced;
+  beyond = d .beyond;
+}
+  where
+    here : Setting (length now) rings k m o a b
+    here = setting-now (length now) (kept .same-length) s
 
 module _ (rings k m o : ℕ) (a b : Table) (before : List ℕ) (s : Setting (length before) rings k m o a b) (valid : LowerValid rings k m o before)
     (limit level : ℕ) (now : List ℕ) (st : State rings k m o a b before s valid limit level now) where
@@ -102,17 +134,12 @@ module _ (rings k m o : ℕ) (a b : Table) (before : List ℕ) (s : Setting (len
             go (in-second r h q) = subst (λ (x : List ℕ). decided (next rings) (λ y. successorEntry rings k now y) x ≡ false) (sym q)
                 (at o m r b (a .own .start) (second-side s) h (f .1 r (subst (λ (n : ℕ). r < n) (sym second-size) h)) (ap (entryAt rings k now) (sym q) ∙ open-c))
 
-    -- it finds one: that position has a forced end beyond the limit, and the tables are left void
-    pub one-decided : PairFound rings a b now true → (after : List ℕ) → after ≡ pairFilled a b voidEntry now
-        → TooDeep rings k limit (BothTables m o) (λ x. pairSeed rings k m o before x) before after
-    one-decided f after e = go f
+    -- it finds one: that position has a forced end beyond the limit
+    pub one-decided : PairFound rings a b now true → Deep rings k limit (BothTables m o) (λ x. pairSeed rings k m o before x)
+    one-decided f = go f
       where
-        here : Setting (length now) rings k m o a b
-        here = setting-now (length now) (st .kept .same-length) s
-
-        at : (x y r : ℕ) (t : Table) (same : ℕ) → Side rings k m o x y t same → BothTables m o x y → r < size (8 * rings) x y → openDecided rings t same now
-            r ≡ true
-            → TooDeep rings k limit (BothTables m o) (λ c. pairSeed rings k m o before c) before after
+        at : (x y r : ℕ) (t : Table) (same : ℕ) → Side rings k m o x y t same → BothTables m o x y → r < size (8 * rings) x y
+            → openDecided rings t same now r ≡ true → Deep rings k limit (BothTables m o) (λ c. pairSeed rings k m o before c)
         at x y r t same side both h g =
             let c = unrank (8 * rings) x y r in
             let i = board-in x y r both h in
@@ -121,10 +148,7 @@ module _ (rings k m o : ℕ) (a b : Table) (before : List ℕ) (s : Setting (len
             let far = beyond (next rings) (λ z. pairSeed rings k m o before z) (OnPair rings m o) (pair-ground rings k m o (s .pair) before valid) level low
             (λ z. successorEntry rings k now z) (st .exact) c (on-pair i) (pair-live rings k m o (s .pair) before valid c i)
             (pair-entry rings k m o (s .pair) before valid now c i ∙ v) (and-right (eqb (entryAt rings k now c) drawEntry) _ d) in
-            subst (TooDeep rings k limit (BothTables m o) (λ z. pairSeed rings k m o before z) before) (sym e) record {
-              kept = kept-then rings k (BothTables m o) before now (pairFilled a b voidEntry now) (st .kept) (pair-kept rings k m o a b now here voidEntry);
-              void = λ u w q t′ l. sym (entry-unrank rings k u w q (pairFilled a b voidEntry now) l)
-                  ∙ pair-filled rings k m o a b now here voidEntry (unrank (8 * rings) u w q) (board-in u w q t′ l);
+            record {
               mover = x;
               opponent = y;
               rank = r;
@@ -135,6 +159,6 @@ module _ (rings k m o : ℕ) (a b : Table) (before : List ℕ) (s : Setting (len
               beyond = far .1 limit past;
             }
 
-        go : PairFound rings a b now true → TooDeep rings k limit (BothTables m o) (λ c. pairSeed rings k m o before c) before after
+        go : PairFound rings a b now true → Deep rings k limit (BothTables m o) (λ c. pairSeed rings k m o before c)
         go (inl (r, h, g)) = at m o r a (b .own .start) (first-side s) (inl (refl, refl)) (subst (λ (n : ℕ). r < n) first-size h) g
         go (inr (r, h, g)) = at o m r b (a .own .start) (second-side s) (inr (refl, refl)) (subst (λ (n : ℕ). r < n) second-size h) g

@@ -3,4 +3,5 @@ pub mod States
 pub mod NextLevel
 pub mod PairSteps
 pub mod Answered
+pub mod PairStates
 pub mod LowerVoid

@@ -11,25 +11,25 @@ use borrow.Author.Tests.{eqb-true, eqb-false, ltb-true, ltb-false}
 use Rattle.board.specs.Board.{count}
 use Rattle.layout.specs.Layout.{start, end, tablebaseLength}
 use Rattle.layout.proofs.OneToOne.{InRange, end-is, end-within}
-use Rattle.game.specs.Game.{voidEntry, Entry}
+use Rattle.game.specs.Game.{drawEntry, voidEntry}
 use Rattle.game.proofs.Levels.{skip, stop}
 use Rattle.outcomes.specs.Places.{place, entryAt, successorEntry}
 use Rattle.outcomes.specs.Whole.{next}
 use Rattle.outcomes.specs.Pair.{Pair, pairSeed, LowerValid}
 use Rattle.outcomes.specs.Filled.{BothTables, Kept}
 use Rattle.outcomes.proofs.Ranked.{InTable, place-at, rank-in}
-use Rattle.outcomes.proofs.PairGame.{Counts, own, lower, lower-turned, OnPair}
+use Rattle.outcomes.proofs.PairGame.{Counts, own, lower, lower-turned, OnPair, InPair}
 use Rattle.outcomes.proofs.Entries.{entry-place, entry-two, entry-three}
 use Rattle.outcomes.proofs.PairLevels.{pair-ground}
 use Rattle.parts.specs.Parts.{partOf, leastFrom}
 use Rattle.parts.proofs.LeastDepth.{least-cases, part-below}
 use Rattle.sweeping.specs.declared.tables.Table.{Table}
 use Rattle.sweeping.specs.Tables.{Located}
-use Rattle.solver.specs.Pairs.{InRoom, pairSwept, pairLeast, levelAfter}
+use Rattle.solver.specs.Pairs.{InRoom, pairLeast}
 use Rattle.solver.specs.Solve.{Setting}
 use Rattle.sweeping.proofs.Probed.{lower-starts, lower-ends, lower-none}
 use Rattle.solver.proofs.Parts.{in-range, turned-pair, part-end, part-room, part-place}
-use Rattle.solver.proofs.States.{ExactBelow, State, exact-most, swept-level}
+use Rattle.solver.proofs.States.{ExactBelow, State}
 
 -- the lower part of a table lies within the tablebase
 pub lower-room : (rings k x y : ℕ) (t : Table) → Located (8 * rings) k x y t → Pair rings k x y → (n : ℕ) → n ≡ tablebaseLength (8 * rings) k
@@ -150,67 +150,38 @@ in-room {n} {rings} {k} {m} {o} {a} {b} s = record {
 
 -- the setting of a tablebase of the same length
 pub setting-now : {n rings k m o : ℕ} {a b : Table} → (l : ℕ) → l ≡ n → Setting n rings k m o a b → Setting l rings k m o a b
-setting-now l e s = record { pair = s .pair; room = e ∙ s .room; first = s .first; second = s .second }
+setting-now l e s = record { pair = s .pair; few = s .few; room = e ∙ s .room; first = s .first; second = s .second }
 
 module _ (rings k m o : ℕ) (a b : Table) (before : List ℕ) (s : Setting (length before) rings k m o a b) (valid : LowerValid rings k m o before)
-    (limit level : ℕ) (now : List ℕ) (small : limit < voidEntry) (h : level ≤ limit) (st : State rings k m o a b before s valid limit level now) where
-  module _ (after : List ℕ) (is : after ≡ pairSwept rings a b level now) where
-    kept : Kept rings k (BothTables m o) before after
-    kept = swept-level rings k m o a b before s valid limit level now small h st after is .0
+    (limit level : ℕ) (pos : 0 < level) (low : level < voidEntry) (after : List ℕ) (kept : Kept rings k (BothTables m o) before after)
+    (exact : ExactBelow rings k m o a b before s valid (suc level) after)
+    (most : (c : List ℕ) → InPair rings m o c → (entryAt rings k after c ≤ limit) ⊎ (entryAt rings k after c ≡ drawEntry)) where
+  here : Setting (length after) rings k m o a b
+  here = setting-now (length after) (kept .same-length) s
 
-    exact : ExactBelow rings k m o a b before s valid (suc level) after
-    exact = swept-level rings k m o a b before s valid limit level now small h st after is .1
+  -- nothing between the level and the least depth
+  nothing : (c : List ℕ) → OnPair rings m o c → level ≤ successorEntry rings k after c → successorEntry rings k after c < pairLeast a b level after
+      → successorEntry rings k after c < voidEntry → ⊥
+  nothing c i l u v = go (ltb (count 1 c) 3) refl
+    where
+      go : (t : Bool) → ltb (count 1 c) 3 ≡ t → ⊥
+      go true f = omega (arith, entry-two rings k after c (ltb-true (count 1 c) 3 f))
+      go false f = let e = entry-three rings k after c (ltb-false (count 1 c) 3 f) in
+          bad e (least-entry rings k m o a b after here level c i (ltb-false (count 1 c) 3 f) (omega arith))
+        where
+          bad : successorEntry rings k after c ≡ entryAt rings k after c
+              → (pairLeast a b level after ≤ entryAt rings k after c) ⊎ (voidEntry ≤ entryAt rings k after c) → ⊥
+          bad e (inl q) = omega arith
+          bad e (inr q) = omega arith
 
-    here : Setting (length after) rings k m o a b
-    here = setting-now (length after) (kept .same-length) s
-
-    least : ℕ
-    least = pairLeast a b level after
-
-    -- nothing between the level and the least depth
-    nothing : 0 < level → (c : List ℕ) → OnPair rings m o c → level ≤ successorEntry rings k after c → successorEntry rings k after c < least
-        → successorEntry rings k after c < voidEntry → ⊥
-    unfolding least
-    nothing pos c i l u v = go (ltb (count 1 c) 3) refl
-      where
-        go : (t : Bool) → ltb (count 1 c) 3 ≡ t → ⊥
-        go true f = omega (arith, entry-two rings k after c (ltb-true (count 1 c) 3 f))
-        go false f = let e = entry-three rings k after c (ltb-false (count 1 c) 3 f) in
-            bad e (least-entry rings k m o a b after here level c i (ltb-false (count 1 c) 3 f) (omega arith))
-          where
-            bad : successorEntry rings k after c ≡ entryAt rings k after c
-                → (pairLeast a b level after ≤ entryAt rings k after c) ⊎ (voidEntry ≤ entryAt rings k after c) → ⊥
-            bad e (inl q) = omega arith
-            bad e (inr q) = omega arith
-
-    pub state-next : (then : ℕ) → then ≡ levelAfter a b level after → (level < then) × State rings k m o a b before s valid limit then after
-    unfolding levelAfter least
-    state-next then e = go (eqb level 0) refl
-      where
-        state : (v : ℕ) → ExactBelow rings k m o a b before s valid v after
-            → (voidEntry < v → (c : List ℕ) → OnPair rings m o c → Entry (next rings) (λ x. pairSeed rings k m o before x) c (successorEntry rings k after c))
-            → State rings k m o a b before s valid limit v after
-        state v x w = record {
-          kept = kept;
-          exact = x;
-          most = exact-most rings k m o a b before s valid (suc level) limit after (omega arith) (omega arith) exact;
-          over = w;
-        }
-
-        go : (c : Bool) → eqb level 0 ≡ c → (level < then) × State rings k m o a b before s valid limit then after
-        go true f =
-            let z = eqb-true level 0 f in
-            let q : then ≡ 1 = e ∙ rw (f, levelAfter) in
-            let x : ExactBelow rings k m o a b before s valid 1 after = subst (λ (v : ℕ). ExactBelow rings k m o a b before s valid (suc v) after) z exact in
-            (omega arith, subst (λ (v : ℕ). State rings k m o a b before s valid limit v after) (sym q) (state 1 x (λ l. absurd (omega arith))))
-        go false f =
-            let d : level ≡ 0 → ⊥ = eqb-false level 0 f in
-            let q : then ≡ suc (pairLeast a b level after) = e ∙ rw (f, levelAfter) in
-            let r = least-range rings k m o a b after here level (omega arith) in
-            let x = skip (next rings) (λ c. pairSeed rings k m o before c) (OnPair rings m o) (pair-ground rings k m o (s .pair) before valid) level (omega arith)
-            (λ c. successorEntry rings k after c) exact (pairLeast a b level after) (r .0) (λ c i l u. nothing (omega arith) c i l u (omega (arith, r .1))) in
-            let w : voidEntry < suc (pairLeast a b level after) → (c : List ℕ) → OnPair rings m o c
-            → Entry (next rings) (λ y. pairSeed rings k m o before y) c (successorEntry rings k after c) =
-            λ v. stop (next rings) (λ c. pairSeed rings k m o before c) (OnPair rings m o) (pair-ground rings k m o (s .pair) before valid) level (omega arith)
-            (λ c. successorEntry rings k after c) exact (λ c i l u. nothing (omega arith) c i l (omega arith) u) in
-            (omega (arith, r .0), subst (λ (v : ℕ). State rings k m o a b before s valid limit v after) (sym q) (state (suc (pairLeast a b level after)) x w))
+  pub state-next : (then : ℕ) → then ≡ suc (pairLeast a b level after) → (level < then) × State rings k m o a b before s valid limit then after
+  state-next then e =
+      let r = least-range rings k m o a b after here level low in
+      (omega (arith, r .0), subst (λ (v : ℕ). State rings k m o a b before s valid limit v after) (sym e) record {
+        kept = kept;
+        exact = skip (next rings) (λ c. pairSeed rings k m o before c) (OnPair rings m o) (pair-ground rings k m o (s .pair) before valid) level low
+            (λ c. successorEntry rings k after c) exact (pairLeast a b level after) (r .0) (λ c i l u. nothing c i l u (omega (arith, r .1)));
+        most = most;
+        over = λ v. stop (next rings) (λ c. pairSeed rings k m o before c) (OnPair rings m o) (pair-ground rings k m o (s .pair) before valid) level low
+            (λ c. successorEntry rings k after c) exact (λ c i l u. nothing c i l (omega arith) u);
+      })

@@ -1,45 +1,44 @@
--- The steps of the code over a pair: what a sweep of both tables is, how long the tablebase stays, and the level after a level. Assumes nothing.
+-- The steps of the code over a pair: what a level over both tables is, and the least depth of its parts. Assumes nothing.
 use mathlib.Core.Path.{_≡_, refl, ap, ap₂, _∙_}
 use mathlib.Core.Bool.{Bool, true, false}
 use mathlib.Core.List.{List}
 use mathlib.Core.Logic.{_⊎_, inl, inr}
 use Prim.Native.Nat.{ℕ, _+_, _*_, _≤_, _<_, min}
 use native.Mathlib.Omega.{arith}
-use lib.Dec.{eqb}
+use lib.Dec.{eqb, ltb}
 use lib.ListN.{length}
-use borrow.Author.Tests.{eq-eqb, ne-eqb}
+use borrow.Author.Tests.{eq-eqb, ne-eqb, ltb-true, ltb-false}
 use Rattle.sizes.specs.Size.{size}
 use Rattle.game.specs.Game.{voidEntry}
 use Rattle.parts.specs.Parts.{partOf, leastFrom}
+use Rattle.parts.specs.Finding.{First}
 use Rattle.parts.proofs.LeastDepth.{least-cases}
+use Rattle.sweeping.specs.declared.tables.Part.{Part}
 use Rattle.sweeping.specs.declared.tables.Table.{Table}
-use Rattle.sweeping.specs.Levels.{swept, openDecided, Found}
-use Rattle.solver.specs.Pairs.{PairFound, pairSwept, pairLeast, levelAfter}
-use Rattle.sweeping.proofs.AtRank.{swept-length}
+use Rattle.sweeping.specs.Levels.{blockedFirst, openDecided, Found}
+use Rattle.sweeping.specs.Marked.{levelled}
+use Rattle.solver.specs.Pairs.{PairFound, Held, Beyond, pairBlocked, pairLevelled, pairLeast}
 
-module _ (rings : ℕ) (a b : Table) (level : ℕ) (now : List ℕ) where
-  abbrev once : List ℕ
-  once = swept rings a (b .own .start) level now (size (8 * rings) (a .mover) (a .opponent))
+-- both tables, one after the other
+module _ (rings : ℕ) (a b : Table) (now once : List ℕ) where
+  pub blocked-once : once ≡ blockedFirst rings a now (size (8 * rings) (a .mover) (a .opponent)) → a .mover ≡ a .opponent → once ≡ pairBlocked rings a b now
+  unfolding pairBlocked
+  blocked-once is e = is ∙ rw (eq-eqb (a .mover) (a .opponent) e, pairBlocked)
 
-  pub pair-once : a .mover ≡ a .opponent → once ≡ pairSwept rings a b level now
-  unfolding pairSwept
-  pair-once e = rw (eq-eqb (a .mover) (a .opponent) e, pairSwept)
+  pub blocked-twice : once ≡ blockedFirst rings a now (size (8 * rings) (a .mover) (a .opponent)) → (a .mover ≡ a .opponent → ⊥)
+      → blockedFirst rings b once (size (8 * rings) (b .mover) (b .opponent)) ≡ pairBlocked rings a b now
+  unfolding pairBlocked
+  blocked-twice is d = ap (λ (l : List ℕ). blockedFirst rings b l (size (8 * rings) (b .mover) (b .opponent))) is
+      ∙ rw (ne-eqb (a .mover) (a .opponent) d, pairBlocked)
 
-  pub pair-twice : (a .mover ≡ a .opponent → ⊥) → (l : List ℕ) → l ≡ once
-      → swept rings b (a .own .start) level l (size (8 * rings) (b .mover) (b .opponent)) ≡ pairSwept rings a b level now
-  unfolding pairSwept
-  pair-twice d l e =
-      ap (λ (x : List ℕ). swept rings b (a .own .start) level x (size (8 * rings) (b .mover) (b .opponent))) e
-      ∙ rw (ne-eqb (a .mover) (a .opponent) d, pairSwept)
+  pub level-once : (level : ℕ) → once ≡ levelled rings a (b .own .start) level now → a .mover ≡ a .opponent → once ≡ pairLevelled rings a b level now
+  unfolding pairLevelled
+  level-once level is e = is ∙ rw (eq-eqb (a .mover) (a .opponent) e, pairLevelled)
 
-  pub pair-length : length (pairSwept rings a b level now) ≡ length now
-  unfolding pairSwept
-  pair-length = go (eqb (a .mover) (a .opponent)) refl
-    where
-      go : (c : Bool) → eqb (a .mover) (a .opponent) ≡ c → length (pairSwept rings a b level now) ≡ length now
-      go true f = rw (f, pairSwept) (swept-length rings a (b .own .start) level now (size (8 * rings) (a .mover) (a .opponent)))
-      go false f = rw (f, pairSwept) (swept-length rings b (a .own .start) level once (size (8 * rings) (b .mover) (b .opponent))
-          ∙ swept-length rings a (b .own .start) level now (size (8 * rings) (a .mover) (a .opponent)))
+  pub level-twice : (level : ℕ) → once ≡ levelled rings a (b .own .start) level now → (a .mover ≡ a .opponent → ⊥)
+      → levelled rings b (a .own .start) level once ≡ pairLevelled rings a b level now
+  unfolding pairLevelled
+  level-twice level is d = ap (λ (l : List ℕ). levelled rings b (a .own .start) level l) is ∙ rw (ne-eqb (a .mover) (a .opponent) d, pairLevelled)
 
 -- the first table has none: the second decides
 pub second-found : (rings : ℕ) (a b : Table) (now : List ℕ)
@@ -47,6 +46,20 @@ pub second-found : (rings : ℕ) (a b : Table) (now : List ℕ)
     → (c : Bool) → Found (openDecided rings b (a .own .start) now) (size (8 * rings) (b .mover) (b .opponent)) c → PairFound rings a b now c
 second-found rings a b now f true s = inr s
 second-found rings a b now f false s = (f, s)
+
+-- an entry sought in a part
+pub held : (now : List ℕ) (p : Part) (e j : ℕ) → First e now (p .start) (p .end) j → Held now p e (ltb j (p .end))
+held now p e j w = go (ltb j (p .end)) refl
+  where
+    go : (c : Bool) → ltb j (p .end) ≡ c → Held now p e c
+    go true f = let h = ltb-true j (p .end) f in (j, w .low, h, w .here h)
+    go false f = λ (i, l, h, q). w .none i l (omega (arith, ltb-false j (p .end) f)) q
+
+-- the first part has none: the second decides
+pub second-held : (a b : Table) (limit level : ℕ) (now : List ℕ) → limit < level → Held now (a .own) level false
+    → (c : Bool) → Held now (b .own) level c → Beyond a b limit level now c
+second-held a b limit level now h f true s = (h, inr s)
+second-held a b limit level now h f false s = inr (f, s)
 
 module _ (a b : Table) (level : ℕ) (now : List ℕ) where
   pub least-of : (p q r s : ℕ) → p ≡ leastFrom level (partOf (a .own .start) (a .own .end) now) → q ≡ leastFrom level (partOf (b .own .start) (b .own .end) now)
@@ -64,10 +77,33 @@ module _ (a b : Table) (level : ℕ) (now : List ℕ) where
       go e f (inl q) = omega arith
       go e f (inr q) = omega (arith, q .1)
 
-  pub after-zero : level ≡ 0 → 1 ≡ levelAfter a b level now
-  unfolding levelAfter
-  after-zero e = rw (eq-eqb level 0 e, levelAfter)
+  -- the least depth is the level where it is that of one part
+  module _ (h : level < voidEntry) where
+    least-low : (l : List ℕ) → level ≤ leastFrom level l
+    least-low l = go (leastFrom level l) (least-cases level l)
+      where
+        go : (e : ℕ) → (e ≡ voidEntry) ⊎ ((level ≤ e) × (e < voidEntry)) → level ≤ e
+        go e (inl q) = omega arith
+        go e (inr q) = q .0
 
-  pub after-more : (level ≡ 0 → ⊥) → (v : ℕ) → v ≡ pairLeast a b level now → 1 + v ≡ levelAfter a b level now
-  unfolding levelAfter
-  after-more d v e = rw (ne-eqb level 0 d, levelAfter) (omega (arith, e))
+    abbrev ones : ℕ
+    ones = leastFrom level (partOf (a .own .start) (a .own .end) now)
+
+    abbrev twos : ℕ
+    twos = leastFrom level (partOf (b .own .start) (b .own .end) now)
+
+    abbrev threes : ℕ
+    threes = leastFrom level (partOf (a .lower .start) (a .lower .end) now)
+
+    abbrev fours : ℕ
+    fours = leastFrom level (partOf (b .lower .start) (b .lower .end) now)
+
+    pub least-found : (ones ≡ level) ⊎ ((twos ≡ level) ⊎ (threes ≡ level)) → level ≡ pairLeast a b level now
+    unfolding pairLeast
+    least-found f = go f (least-low _) (least-low _) (least-low _) (least-low _)
+      where
+        go : (ones ≡ level) ⊎ ((twos ≡ level) ⊎ (threes ≡ level)) → level ≤ ones → level ≤ twos → level ≤ threes → level ≤ fours
+            → level ≡ min (min ones twos) (min threes fours)
+        go (inl e) p q r t = omega arith
+        go (inr (inl e)) p q r t = omega arith
+        go (inr (inr e)) p q r t = omega arith

@@ -19,8 +19,8 @@ use Rattle.parts.specs.Parts.{filledPart}
 use Rattle.parts.proofs.Filling.{filled-length, filled-in, filled-cases}
 use Rattle.sweeping.specs.declared.tables.Table.{Table}
 use Rattle.sweeping.specs.Tables.{Located}
-use Rattle.sweeping.specs.Levels.{Fits}
-use Rattle.solver.specs.Pairs.{pairFilled}
+use Rattle.sweeping.specs.Levels.{Lies, Fits}
+use Rattle.solver.specs.Pairs.{Counted, pairFilled}
 use Rattle.solver.specs.Solve.{Setting}
 use Rattle.sweeping.proofs.Probed.{reads-within}
 use Rattle.sweeping.proofs.Visits.{Side}
@@ -104,6 +104,30 @@ module _ {n rings k m o : ℕ} {a b : Table} (s : Setting n rings k m o a b) whe
 
   pub second-fits : Fits n rings b (a .own .start)
   second-fits = part-fits rings k o m b (s .second) (turned-pair (s .pair)) (a .own .start) n (s .first .start-is) (s .room)
+
+  pub first-lies : Lies (8 * rings) a n
+  first-lies = record { whole = first-fits .end-is; within = first-fits .room }
+
+  pub second-lies : Lies (8 * rings) b n
+  second-lies = record { whole = second-fits .end-is; within = second-fits .room }
+
+  pub first-counted : Counted a
+  first-counted =
+      let p = s .pair in
+      let t = s .first in (
+        omega (arith, p .mover-high, s .few, t .mover-is),
+        omega (arith, p .opponent-low, t .opponent-is),
+        omega (arith, p .opponent-high, s .few, t .opponent-is),
+      )
+
+  pub second-counted : Counted b
+  second-counted =
+      let p = s .pair in
+      let t = s .second in (
+        omega (arith, p .opponent-high, s .few, t .mover-is),
+        omega (arith, p .mover-low, t .opponent-is),
+        omega (arith, p .mover-high, s .few, t .opponent-is),
+      )
 
 -- both tables filled with one value
 module _ (rings k m o : ℕ) (a b : Table) (now : List ℕ) (s : Setting (length now) rings k m o a b) (v : ℕ) where

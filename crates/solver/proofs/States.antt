@@ -1,13 +1,13 @@
 -- The levels of a pair's solver: what holds before each level, that a sweep and the step to the next level keep it, and what the solver answers in
 -- the end. Assumes nothing.
-use mathlib.Core.Path.{_≡_, refl, sym, ap₂, subst, _∙_}
+use mathlib.Core.Path.{_≡_, refl, sym, ap, ap₂, subst, _∙_}
 use mathlib.Core.Bool.{Bool, true, false}
 use mathlib.Core.List.{List}
 use mathlib.Core.Logic.{_⊎_, inl, inr}
-use Prim.Native.Nat.{ℕ, suc, _*_, _≤_, _<_}
+use Prim.Native.Nat.{ℕ, suc, _+_, _*_, _≤_, _<_}
 use native.Mathlib.Omega.{arith}
 use lib.Dec.{eqb}
-use lib.ListN.{length}
+use lib.ListN.{length, getD}
 use borrow.Author.Tests.{eqb-true}
 use Rattle.board.specs.Board.{count}
 use Rattle.sizes.specs.Size.{size}
@@ -16,21 +16,24 @@ use Rattle.ranking.specs.Unrank.{unrank}
 use Rattle.layout.specs.Layout.{start, end, tablebaseLength}
 use Rattle.game.specs.Game.{live, drawEntry, voidEntry, Depth, Entry}
 use Rattle.game.proofs.Depths.{NotBefore, before-or-not}
-use Rattle.game.proofs.Levels.{Exact, exact-start, level-start, level-done}
+use Rattle.game.proofs.Levels.{Fresh, Exact, exact-start, level-start, level-done}
 use Rattle.outcomes.specs.Places.{entryAt, successorEntry}
 use Rattle.outcomes.specs.Whole.{next}
 use Rattle.outcomes.specs.Pair.{pairSeed, LowerValid}
 use Rattle.outcomes.specs.Filled.{BothTables, Kept}
-use Rattle.outcomes.proofs.Ranked.{InTable, unrank-of, rank-in}
-use Rattle.outcomes.proofs.PairGame.{own, OnPair, InPair, on-pair}
-use Rattle.outcomes.proofs.Entries.{kept-then}
+use Rattle.outcomes.proofs.Ranked.{InTable, unrank-in, unrank-of, rank-in}
+use Rattle.outcomes.proofs.PairGame.{own, OnPair, InPair, on-pair, pair-table}
+use Rattle.outcomes.proofs.Entries.{entry-unrank, kept-then}
 use Rattle.outcomes.proofs.PairLevels.{Amid, pair-live, live-pair, pair-ground, pair-seeded, pair-entry}
 use Rattle.sweeping.specs.declared.tables.Table.{Table}
-use Rattle.sweeping.specs.Levels.{swept}
-use Rattle.solver.specs.Pairs.{pairSwept, pairFilled}
+use Rattle.sweeping.specs.Levels.{Fits, blockedFirst, swept}
+use Rattle.sweeping.specs.Marked.{levelled}
+use Rattle.solver.specs.Pairs.{pairFilled}
 use Rattle.solver.specs.Solve.{Setting}
-use Rattle.sweeping.proofs.Visits.{swept-kept, Done, earlier, ranked-below, swept-amid}
-use Rattle.solver.proofs.Parts.{first-side, second-side, pair-kept, pair-filled}
+use Rattle.sweeping.proofs.LevelZero.{blocked-swept}
+use Rattle.sweeping.proofs.Visits.{Side, swept-kept, swept-table}
+use Rattle.sweeping.proofs.MarkedLevels.{levelled-kept, levelled-table}
+use Rattle.solver.proofs.Parts.{pair-kept, pair-filled}
 
 module _ (rings k m o : ℕ) (a b : Table) (before : List ℕ) (s : Setting (length before) rings k m o a b) (valid : LowerValid rings k m o before) where
   -- every position of the pair has its depth if that is below the level, and is open otherwise
@@ -95,80 +98,111 @@ module _ (rings k m o : ℕ) (a b : Table) (before : List ℕ) (s : Setting (len
       go (inl (j, l, d)) = inl (omega (arith, is, x .low c (on-pair i) seed-live j l d))
       go (inr n) = inr (sym is ∙ x .blank c (on-pair i) seed-live n)
 
-  -- both tables swept at a level
-  module _ (limit level : ℕ) (now : List ℕ) (small : limit < voidEntry) (h : level ≤ limit) (st : State limit level now) where
-    abbrev none : List ℕ → Type 0
-    none c = ⊥
+  -- in the middle of a level: the positions of D are done
+  module _ (level : ℕ) (low : level < voidEntry) where
+    pub record AtLevel (D : List ℕ → Type 0) (now : List ℕ) : Type 0 where
+      pub kept : Kept rings k (BothTables m o) before now
+      pub amid : Amid rings k m o (s .pair) before valid level D now
 
-    room : length now ≡ tablebaseLength (8 * rings) k
-    room = st .kept .same-length ∙ s .room
+    level-room : (D : List ℕ → Type 0) (now : List ℕ) → AtLevel D now → length now ≡ tablebaseLength (8 * rings) k
+    level-room D now w = w .kept .same-length ∙ s .room
 
-    low : level < voidEntry
-    low = omega arith
-
-    abbrev once : List ℕ
-    once = swept rings a (b .own .start) level now (size (8 * rings) m o)
-
-    abbrev twice : List ℕ
-    twice = swept rings b (a .own .start) level once (size (8 * rings) o m)
-
-    abbrev DoneOnce : List ℕ → Type 0
-    DoneOnce c = Done rings k m o (s .pair) m o a (b .own .start) (first-side s) before valid level low none (size (8 * rings) m o) c
-
-    abbrev DoneTwice : List ℕ → Type 0
-    DoneTwice c = Done rings k m o (s .pair) o m b (a .own .start) (second-side s) before valid level low DoneOnce (size (8 * rings) o m) c
-
-    once-kept : Kept rings k (BothTables m o) now once
-    once-kept = swept-kept rings k m o (s .pair) m o a (b .own .start) (first-side s) level now (size (8 * rings) m o) (omega arith)
-
-    once-amid : Amid rings k m o (s .pair) before valid level DoneOnce once
-    once-amid = swept-amid rings k m o (s .pair) m o a (b .own .start) (first-side s) before valid level low none now room
-        (level-start (next rings) (λ c. pairSeed rings k m o before c) (OnPair rings m o) (λ c. successorEntry rings k now c) level (st .exact))
-        (size (8 * rings) m o) (omega arith)
-
-    twice-kept : Kept rings k (BothTables m o) once twice
-    twice-kept = swept-kept rings k m o (s .pair) o m b (a .own .start) (second-side s) level once (size (8 * rings) o m) (omega arith)
-
-    twice-amid : Amid rings k m o (s .pair) before valid level DoneTwice twice
-    twice-amid = swept-amid rings k m o (s .pair) o m b (a .own .start) (second-side s) before valid level low DoneOnce once
-        (once-kept .same-length ∙ room) once-amid (size (8 * rings) o m) (omega arith)
-
-    -- every board of the pair has been visited
-    all-once : m ≡ o → (c : List ℕ) → Rank c → DoneOnce c
-    all-once e c (in-first r l q) = ranked-below r l q
-    all-once e c (in-second r l q) =
-        ranked-below r (subst (λ (z : ℕ). r < z) (ap₂ (size (8 * rings)) (sym e) e) l) (q ∙ ap₂ (λ (u v : ℕ). unrank (8 * rings) u v r) (sym e) e)
-
-    all-twice : (c : List ℕ) → Rank c → DoneTwice c
-    all-twice c (in-first r l q) = earlier (ranked-below r l q)
-    all-twice c (in-second r l q) = ranked-below r l q
-
-    ended-level : (D : List ℕ → Type 0) (after : List ℕ) → Amid rings k m o (s .pair) before valid level D after → ((c : List ℕ) → Rank c → D c)
-        → ExactBelow (suc level) after
-    ended-level D after w all = level-done (next rings) (λ c. pairSeed rings k m o before c) (OnPair rings m o)
-        (pair-ground rings k m o (s .pair) before valid) level low (λ c. successorEntry rings k after c) D w
-        (λ c i e d. all c (rank-of c (live-pair rings k m o (s .pair) before valid c i e)))
-
-    pub swept-level : (after : List ℕ) → after ≡ pairSwept rings a b level now → Kept rings k (BothTables m o) before after × ExactBelow (suc level) after
-    unfolding pairSwept
-    swept-level after is = go (eqb (a .mover) (a .opponent)) refl
+    -- no entry of the pair is void
+    level-valid : (D : List ℕ → Type 0) (now : List ℕ) → AtLevel D now → (c : List ℕ) → InPair rings m o c → entryAt rings k now c ≡ voidEntry → ⊥
+    level-valid D now w c i v = go (before-or-not (next rings) (λ y. pairSeed rings k m o before y) level c)
       where
-        -- the sizes that the code goes by
-        sizes : pairSwept rings a b level now ≡ elim (eqb (a .mover) (a .opponent)) [ true ↦ once | false ↦ twice ]
-        sizes = ap₂ (λ (u v : ℕ). elim (eqb (a .mover) (a .opponent)) as (λ c. List ℕ) [
-          | true ↦ swept rings a (b .own .start) level now u
-          | false ↦ swept rings b (a .own .start) level (swept rings a (b .own .start) level now u) v
-        ]) (ap₂ (size (8 * rings)) (s .first .mover-is) (s .first .opponent-is)) (ap₂ (size (8 * rings)) (s .second .mover-is) (s .second .opponent-is))
+        seed-live : pairSeed rings k m o before c ≡ live
+        seed-live = pair-live rings k m o (s .pair) before valid c i
 
-        go : (c : Bool) → eqb (a .mover) (a .opponent) ≡ c → Kept rings k (BothTables m o) before after × ExactBelow (suc level) after
+        is : successorEntry rings k now c ≡ voidEntry
+        is = pair-entry rings k m o (s .pair) before valid now c i ∙ v
+
+        none : Fresh (next rings) (λ y. pairSeed rings k m o before y) (OnPair rings m o) level (successorEntry rings k now c) c → ⊥
+        none (inl e) = omega (arith, is)
+        none (inr e) = omega (arith, is, e .0)
+
+        go : ((j : ℕ) × (j < level) × Depth (next rings) (λ y. pairSeed rings k m o before y) j c)
+            ⊎ NotBefore (next rings) (λ y. pairSeed rings k m o before y) level c → ⊥
+        go (inl (j, l, d)) = omega (arith, is, w .amid .low c (on-pair i) seed-live j l d)
+        go (inr n) = none (w .amid .fresh c (on-pair i) seed-live n)
+
+    -- one of the tables
+    module _ (x y : ℕ) (t : Table) (same : ℕ) (side : Side rings k m o x y t same) (D : List ℕ → Type 0) (now : List ℕ) (w : AtLevel D now) where
+      abbrev DoneToo : List ℕ → Type 0
+      DoneToo c = D c ⊎ InTable rings x y c
+
+      sizes : size (8 * rings) (t .mover) (t .opponent) ≡ size (8 * rings) x y
+      sizes = ap₂ (size (8 * rings)) (side .located .mover-is) (side .located .opponent-is)
+
+      pub blocked-step : level ≡ 0 → AtLevel DoneToo (blockedFirst rings t now (size (8 * rings) (t .mover) (t .opponent)))
+      blocked-step z = subst (AtLevel DoneToo) (sym is) record {
+        kept = kept-then rings k (BothTables m o) before now (swept rings t same (λ i. true) level now (size (8 * rings) x y)) (w .kept)
+            (swept-kept rings k m o (s .pair) x y t same side (λ i. true) level now (size (8 * rings) x y) (omega arith));
+        amid = swept-table rings k m o (s .pair) x y t same side before valid level low (λ i. true) D now (level-room D now w) (w .amid) (λ r h d. inl refl);
+      }
+        where
+          is : blockedFirst rings t now (size (8 * rings) (t .mover) (t .opponent)) ≡ swept rings t same (λ i. true) level now (size (8 * rings) x y)
+          is = blocked-swept rings t now same (size (8 * rings) (t .mover) (t .opponent))
+              ∙ ap₂ (λ (l n : ℕ). swept rings t same (λ i. true) l now n) (sym z) sizes
+
+      pub level-step : 0 < level → Fits (length now) rings t same → AtLevel DoneToo (levelled rings t same level now)
+      level-step pos fits = record {
+        kept = kept-then rings k (BothTables m o) before now (levelled rings t same level now) (w .kept)
+            (levelled-kept rings k m o (s .pair) x y t same side before valid level pos low now fits D (w .amid) (level-room D now w) valid-here);
+        amid = levelled-table rings k m o (s .pair) x y t same side before valid level pos low now fits D (w .amid) (level-room D now w) valid-here;
+      }
+        where
+          valid-here : (r : ℕ) → r < size (8 * rings) x y → getD now (t .own .start + r) 0 ≡ voidEntry → ⊥
+          valid-here r h e = level-valid D now w (unrank (8 * rings) x y r) (pair-table (side .both) (unrank-in rings x y r h))
+              (entry-unrank rings k x y r now h ∙ ap (λ (i : ℕ). getD now (i + r) 0) (sym (side .located .start-is)) ∙ e)
+
+    abbrev pub None : List ℕ → Type 0
+    None c = ⊥
+
+    abbrev pub Once : List ℕ → Type 0
+    Once c = None c ⊎ InTable rings m o c
+
+    abbrev pub Twice : List ℕ → Type 0
+    Twice c = Once c ⊎ InTable rings o m c
+
+    pub level-begun : (limit : ℕ) (now : List ℕ) → State limit level now → AtLevel None now
+    level-begun limit now st = record {
+      kept = st .kept;
+      amid = level-start (next rings) (λ c. pairSeed rings k m o before c) (OnPair rings m o) (λ c. successorEntry rings k now c) level (st .exact);
+    }
+
+    -- once every board of the pair is done, the level is
+    ended-level : (D : List ℕ → Type 0) (now : List ℕ) → AtLevel D now → ((c : List ℕ) → InPair rings m o c → D c)
+        → Kept rings k (BothTables m o) before now × ExactBelow (suc level) now
+    ended-level D now w all = (
+      w .kept,
+      level-done (next rings) (λ c. pairSeed rings k m o before c) (OnPair rings m o) (pair-ground rings k m o (s .pair) before valid) level low
+          (λ c. successorEntry rings k now c) D (w .amid) (λ c i e d. all c (live-pair rings k m o (s .pair) before valid c i e)),
+    )
+
+    -- both tables, or the one where they are the same
+    pub both-ended : (once twice after : List ℕ) → AtLevel Once once → AtLevel Twice twice
+        → after ≡ elim (eqb (a .mover) (a .opponent)) [ true ↦ once | false ↦ twice ] → Kept rings k (BothTables m o) before after × ExactBelow (suc level) after
+    both-ended once twice after v w is = go (eqb (a .mover) (a .opponent)) refl
+      where
+        whose : (c : List ℕ) → InPair rings m o c → (x y : ℕ) → count 1 c ≡ x → count 2 c ≡ y → InTable rings x y c
+        whose c i x y e f = record { values = i .values; points = i .points; mover = e; opponent = f }
+
+        all-once : m ≡ o → (c : List ℕ) → InPair rings m o c → BothTables m o (count 1 c) (count 2 c) → Once c
+        all-once e c i (inl q) = inr (whose c i m o (q .0) (q .1))
+        all-once e c i (inr q) = inr (whose c i m o (q .0 ∙ sym e) (q .1 ∙ e))
+
+        all-twice : (c : List ℕ) → InPair rings m o c → BothTables m o (count 1 c) (count 2 c) → Twice c
+        all-twice c i (inl q) = inl (inr (whose c i m o (q .0) (q .1)))
+        all-twice c i (inr q) = inr (whose c i o m (q .0) (q .1))
+
+        go : (d : Bool) → eqb (a .mover) (a .opponent) ≡ d → Kept rings k (BothTables m o) before after × ExactBelow (suc level) after
         go true f =
-            let e : after ≡ once = is ∙ sizes ∙ rw f in
+            let e : after ≡ once = is ∙ rw f in
             let q : m ≡ o = sym (s .first .mover-is) ∙ eqb-true (a .mover) (a .opponent) f ∙ s .first .opponent-is in
             subst (λ (l : List ℕ). Kept rings k (BothTables m o) before l × ExactBelow (suc level) l) (sym e)
-            (kept-then rings k (BothTables m o) before now once (st .kept) once-kept, ended-level DoneOnce once once-amid (all-once q))
+            (ended-level Once once v (λ c i. all-once q c i (i .counts)))
         go false f =
-            let e : after ≡ twice = is ∙ sizes ∙ rw f in
-            subst (λ (l : List ℕ). Kept rings k (BothTables m o) before l × ExactBelow (suc level) l) (sym e) (
-              kept-then rings k (BothTables m o) before once twice (kept-then rings k (BothTables m o) before now once (st .kept) once-kept) twice-kept,
-              ended-level DoneTwice twice twice-amid all-twice,
-            )
+            let e : after ≡ twice = is ∙ rw f in
+            subst (λ (l : List ℕ). Kept rings k (BothTables m o) before l × ExactBelow (suc level) l) (sym e)
+            (ended-level Twice twice w (λ c i. all-twice c i (i .counts)))

@@ -1,22 +1,48 @@
--- A level over a pair of tables, as a function of the tablebase, and the level after it. Assumes nothing.
+-- A level over a pair of tables, as a function of the tablebase, and what is asked between levels. Assumes nothing.
+use mathlib.Core.Path.{_≡_}
 use mathlib.Core.Bool.{Bool, true, false}
 use mathlib.Core.List.{List}
 use mathlib.Core.Logic.{_⊎_}
-use Prim.Native.Nat.{ℕ, suc, _*_, _≤_, min}
+use Prim.Native.Nat.{ℕ, _*_, _≤_, _<_, min}
 use lib.Dec.{eqb}
+use lib.ListN.{getD}
 use Rattle.sizes.specs.Size.{size}
 use Rattle.parts.specs.Parts.{partOf, filledPart, leastFrom}
 use Rattle.sweeping.specs.declared.tables.Part.{Part}
 use Rattle.sweeping.specs.declared.tables.Table.{Table}
-use Rattle.sweeping.specs.Levels.{swept, openDecided, Found}
+use Rattle.sweeping.specs.Levels.{blockedFirst, openDecided, Found}
+use Rattle.sweeping.specs.Marked.{levelled}
 
--- both tables of a pair, or the one where they are the same
-unfoldable pub pairSwept : ℕ → Table → Table → ℕ → List ℕ → List ℕ
-pairSwept rings a b level tablebase = elim (eqb (a .mover) (a .opponent)) [
-  | true ↦ swept rings a (b .own .start) level tablebase (size (8 * rings) (a .mover) (a .opponent))
-  | false ↦ swept rings b (a .own .start) level
-      (swept rings a (b .own .start) level tablebase (size (8 * rings) (a .mover) (a .opponent))) (size (8 * rings) (b .mover) (b .opponent))
+-- both tables of a pair at level 0, or the one where they are the same
+unfoldable pub pairBlocked : ℕ → Table → Table → List ℕ → List ℕ
+pairBlocked rings a b tablebase = elim (eqb (a .mover) (a .opponent)) [
+  | true ↦ blockedFirst rings a tablebase (size (8 * rings) (a .mover) (a .opponent))
+  | false ↦ blockedFirst rings b (blockedFirst rings a tablebase (size (8 * rings) (a .mover) (a .opponent))) (size (8 * rings) (b .mover) (b .opponent))
 ]
+
+-- and at a level above 0
+unfoldable pub pairLevelled : ℕ → Table → Table → ℕ → List ℕ → List ℕ
+pairLevelled rings a b level tablebase = elim (eqb (a .mover) (a .opponent)) [
+  | true ↦ levelled rings a (b .own .start) level tablebase
+  | false ↦ levelled rings b (a .own .start) level (levelled rings a (b .own .start) level tablebase)
+]
+
+-- an entry stands in the part of a table
+abbrev pub Holds : List ℕ → Part → ℕ → Type 0
+Holds tablebase p e = (j : ℕ) × (p .start ≤ j) × (j < p .end) × (getD tablebase j 0 ≡ e)
+
+abbrev pub Held : List ℕ → Part → ℕ → Bool → Type 0
+Held tablebase p e true = Holds tablebase p e
+Held tablebase p e false = Holds tablebase p e → ⊥
+
+-- the counts of a table, three to the opponent at least
+abbrev pub Counted : Table → Type 0
+Counted t = (t .mover ≤ 24) × (3 ≤ t .opponent) × (t .opponent ≤ 24)
+
+-- whether a level beyond the limit wrote anything in a pair
+abbrev pub Beyond : Table → Table → ℕ → ℕ → List ℕ → Bool → Type 0
+Beyond a b limit level tablebase true = (limit < level) × (Holds tablebase (a .own) level ⊎ Holds tablebase (b .own) level)
+Beyond a b limit level tablebase false = (level ≤ limit) ⊎ ((Holds tablebase (a .own) level → ⊥) × (Holds tablebase (b .own) level → ⊥))
 
 -- whether some open position of a pair is decided by its successors
 abbrev pub PairFound : ℕ → Table → Table → List ℕ → Bool → Type 0
@@ -46,7 +72,3 @@ unfoldable pub pairLeast : Table → Table → ℕ → List ℕ → ℕ
 pairLeast a b low tablebase = min
     (min (leastFrom low (partOf (a .own .start) (a .own .end) tablebase)) (leastFrom low (partOf (b .own .start) (b .own .end) tablebase)))
     (min (leastFrom low (partOf (a .lower .start) (a .lower .end) tablebase)) (leastFrom low (partOf (b .lower .start) (b .lower .end) tablebase)))
-
--- the level after a level: 1 after 0, later 1 + the least depth from the level on
-unfoldable pub levelAfter : Table → Table → ℕ → List ℕ → ℕ
-levelAfter a b level tablebase = elim (eqb level 0) [ true ↦ 1 | false ↦ suc (pairLeast a b level tablebase) ]

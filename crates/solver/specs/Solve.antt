@@ -2,7 +2,7 @@
 use mathlib.Core.Path.{_≡_}
 use mathlib.Core.Bool.{Bool, true, false}
 use mathlib.Core.List.{List}
-use Prim.Native.Nat.{ℕ, _*_}
+use Prim.Native.Nat.{ℕ, _*_, _≤_}
 use Rattle.layout.specs.Layout.{tablebaseLength}
 use Rattle.outcomes.specs.Pair.{Pair, pairSeed}
 use Rattle.outcomes.specs.Whole.{wholeSeed}
@@ -14,6 +14,7 @@ use Rattle.sweeping.specs.Tables.{Located}
 -- a and b are the tables (m, o) and (o, m) of a tablebase of a length
 pub record Setting (length rings k m o : ℕ) (a b : Table) : Type 0 where
   pub pair : Pair rings k m o
+  pub few : k ≤ 9
   pub room : length ≡ tablebaseLength (8 * rings) k
   pub first : Located (8 * rings) k m o a
   pub second : Located (8 * rings) k o m b

@@ -1,21 +1,44 @@
-// A pair of tables, level by level: first every position is open, then each level writes what has that depth.
+// A pair of tables, level by level: first every position is open, then each level writes what has that depth. Depths have gaps, so the next level is
+// one more than the least depth from the level on. The first level beyond the limit that writes anything shows a position that is too deep. Level
+// 65,534 is no entry: there one look decides.
 ghost use mathlib.Core.Path.{_≡_};
 ghost use mathlib.Core.Bool.{Bool};
-ghost use Prim.Native.Nat.{_≤_, _<_, min};
+ghost use Prim.Native.Nat.{_*_, _≤_, _<_, min};
 ghost use lib.ListN.{length};
 ghost use Rattle.sizes.specs.Binomial.{BinomialTable};
 ghost use Rattle.plies.specs.Masks.{NeighbourMasks, MillMasks};
 ghost use Rattle.game.specs.Game.{voidEntry};
 ghost use Rattle.outcomes.specs.Pair.{LowerValid};
-ghost use Rattle.sweeping.specs.Levels.{Fits};
-ghost use Rattle.solver.specs.Pairs.{InRoom, pairSwept, pairFilled, pairLeast, levelAfter, PairFound};
+ghost use Rattle.sweeping.specs.Levels.{Lies, Fits};
+ghost use Rattle.solver.specs.Pairs.{PartIn, InRoom, Counted, Held, Beyond, pairBlocked, pairLevelled, pairFilled, pairLeast, PairFound};
 ghost use Rattle.solver.specs.Solve.{Setting, PairFill};
 use parts::DRAW;
 use parts::VOID;
+use sweeping::Part;
 use sweeping::Table;
 
-// Both tables of a pair at a level; they are one where both sides have as many stones.
+// Both tables of a pair at level 0; they are one where both sides have as many stones.
 fn sweep_pair(
+    tablebase: &mut [u16],
+    binomials: &[u32; 625],
+    near: &[u32; 24],
+    rings: usize,
+    first: Table,
+    second: Table,
+)
+    requires { ⌜ BinomialTable (now binomials) ⌝ }
+    requires { ⌜ NeighbourMasks rings (now near) ⌝ }
+    requires { ⌜ (rings ≤ 3) × Lies (8 * rings) first (length (now tablebase)) × Lies (8 * rings) second (length (now tablebase)) ⌝ }
+    ensures { λ _. ⌜ now (tablebase .exit) ≡ pairBlocked rings first second (now (tablebase .entry)) ⌝ }
+{
+    sweeping::sweep_blocked(tablebase, binomials, near, rings, first);
+    if first.mover != first.opponent {
+        sweeping::sweep_blocked(tablebase, binomials, near, rings, second);
+    }
+}
+
+// Both tables of a pair at a level above 0.
+fn level_pair(
     tablebase: &mut [u16],
     binomials: &[u32; 625],
     near: &[u32; 24],
@@ -28,12 +51,13 @@ fn sweep_pair(
     requires { ⌜ BinomialTable (now binomials) ⌝ }
     requires { ⌜ NeighbourMasks rings (now near) ⌝ }
     requires { ⌜ MillMasks rings (now mills) ⌝ }
-    requires { ⌜ Fits (length (now tablebase)) rings first (second .own .start) × Fits (length (now tablebase)) rings second (first .own .start) × (level < voidEntry) ⌝ }
-    ensures { λ _. ⌜ now (tablebase .exit) ≡ pairSwept rings first second level (now (tablebase .entry)) ⌝ }
+    requires { ⌜ Fits (length (now tablebase)) rings first (second .own .start) × Counted first × Fits (length (now tablebase)) rings second (first .own .start)
+        × Counted second × (0 < level) × (level < voidEntry) ⌝ }
+    ensures { λ _. ⌜ now (tablebase .exit) ≡ pairLevelled rings first second level (now (tablebase .entry)) ⌝ }
 {
     let one = first.own;
     let two = second.own;
-    sweeping::sweep_table(
+    sweeping::level_table(
         tablebase,
         binomials,
         near,
@@ -44,7 +68,7 @@ fn sweep_pair(
         level,
     );
     if first.mover != first.opponent {
-        sweeping::sweep_table(
+        sweeping::level_table(
             tablebase,
             binomials,
             near,
@@ -55,6 +79,29 @@ fn sweep_pair(
             level,
         );
     }
+}
+
+// Whether an entry stands in a part.
+fn holds(tablebase: &[u16], part: Part, entry: u16) -> bool
+    requires { ⌜ PartIn (length (now tablebase)) part ⌝ }
+    ensures { λ b. ⌜ Held (now (tablebase .entry)) part entry b ⌝ }
+{
+    let end = part.end;
+    parts::find(tablebase, part.start, end, entry) < end
+}
+
+// Whether a level beyond the limit wrote anything in a pair.
+fn beyond(tablebase: &[u16], first: Table, second: Table, limit: u16, level: u16) -> bool
+    requires { ⌜ InRoom (length (now tablebase)) first second ⌝ }
+    ensures { λ b. ⌜ Beyond first second limit level (now (tablebase .entry)) b ⌝ }
+{
+    if level <= limit {
+        return false;
+    }
+    if holds(tablebase, first.own, level) {
+        return true;
+    }
+    holds(tablebase, second.own, level)
 }
 
 // Whether some open position of a pair is decided by its successors.
@@ -102,9 +149,9 @@ fn least(a: u16, b: u16) -> u16
     b
 }
 
-// The least depth from `low` on in both tables and their lower tables, void where there is none.
+// The least depth from `low` on in both tables and their lower tables, void where there is none. Most often `low` itself stands in one of them.
 fn pair_least(tablebase: &[u16], first: Table, second: Table, low: u16) -> u16
-    requires { ⌜ InRoom (length (now tablebase)) first second ⌝ }
+    requires { ⌜ InRoom (length (now tablebase)) first second × (low < voidEntry) ⌝ }
     ensures { λ r. ⌜ r ≡ pairLeast first second low (now (tablebase .entry)) ⌝ }
 {
     let one = first.own;
@@ -112,21 +159,19 @@ fn pair_least(tablebase: &[u16], first: Table, second: Table, low: u16) -> u16
     let under_one = first.lower;
     let under_two = second.lower;
     let a = parts::least_depth(tablebase, one.start, one.end, low);
+    if a == low {
+        return low;
+    }
     let b = parts::least_depth(tablebase, two.start, two.end, low);
+    if b == low {
+        return low;
+    }
     let c = parts::least_depth(tablebase, under_one.start, under_one.end, low);
+    if c == low {
+        return low;
+    }
     let d = parts::least_depth(tablebase, under_two.start, under_two.end, low);
     least(least(a, b), least(c, d))
-}
-
-// The next level that can write anything, 65,535 where there is none: depths have gaps, so it is not always the next number.
-fn level_after(tablebase: &[u16], first: Table, second: Table, level: u16) -> u16
-    requires { ⌜ InRoom (length (now tablebase)) first second ⌝ }
-    ensures { λ r. ⌜ r ≡ levelAfter first second level (now (tablebase .entry)) ⌝ }
-{
-    if level == 0 {
-        return 1;
-    }
-    1 + pair_least(tablebase, first, second, level)
 }
 
 // Fills the tables of a pair, or answers that some position is too deep and leaves them void.
@@ -149,9 +194,10 @@ pub fn solve_tables(
     ensures { λ deep. ⌜ PairFill rings k (first .mover) (first .opponent) limit (now (tablebase .entry)) (now (tablebase .exit)) deep ⌝ }
 {
     fill_pair(tablebase, first, second, DRAW);
-    let mut level: u16 = 0;
-    while level <= limit {
-        sweep_pair(
+    sweep_pair(tablebase, binomials, near, rings, first, second);
+    let mut level: u16 = 1;
+    while level < VOID {
+        level_pair(
             tablebase,
             binomials,
             near,
@@ -161,7 +207,11 @@ pub fn solve_tables(
             second,
             level,
         );
-        level = level_after(tablebase, first, second, level);
+        if beyond(tablebase, first, second, limit, level) {
+            fill_pair(tablebase, first, second, VOID);
+            return true;
+        }
+        level = 1 + pair_least(tablebase, first, second, level);
     }
     if VOID < level {
         return false;

@@ -3,7 +3,7 @@
 use mathlib.Core.Path.{_≡_, refl, sym, ap, ap₂, subst, _∙_}
 use mathlib.Core.Bool.{Bool, true, false, _&&_}
 use mathlib.Core.List.{List}
-use Prim.Native.Nat.{ℕ, zero, suc, _+_, _*_, _<_}
+use Prim.Native.Nat.{ℕ, zero, suc, _+_, _*_, _≤_, _<_}
 use native.Mathlib.Numerals.{add-one}
 use lib.ListN.{length, set, length-set}
 use Rattle.board.specs.declared.position.Position.{Position}
@@ -25,18 +25,26 @@ pub record AtRank (n rings : ℕ) (t : Table) (same r : ℕ) (p : Position) : Ty
   pub opponent-is : count 2 (boardOf (8 * rings) p) ≡ t .opponent
   pub reads : Reads n (8 * rings) (count 1 (boardOf (8 * rings) p)) (count 2 (boardOf (8 * rings) p)) same (t .lower .start)
 
+-- the position of a rank
+pub placed-at : (rings : ℕ) → rings ≤ 3 → (m o r : ℕ) → r < size (8 * rings) m o → (p : Position) → p ≡ positionOf (unrank (8 * rings) m o r)
+    → Placed rings p × (boardOf (8 * rings) p ≡ unrank (8 * rings) m o r)
+placed-at rings small m o r h p e =
+    let b : List ℕ = unrank (8 * rings) m o r in
+    let w = rank-unrank (8 * rings) m o r h in (
+      record {
+        small = small;
+        on = subst (λ (q : Position). OnBoard (8 * rings) q) (sym e) (subst (λ (n : ℕ). OnBoard n (positionOf b)) (w .points) (position-on b));
+      },
+      ap (boardOf (8 * rings)) e ∙ ap (λ (n : ℕ). boardOf n (positionOf b)) (sym (w .points)) ∙ board-position b (w .values),
+    )
+
 pub at-rank : (n rings : ℕ) (t : Table) (same r : ℕ) (p : Position) → Fits n rings t same → r < size (8 * rings) (t .mover) (t .opponent)
     → p ≡ positionOf (unrank (8 * rings) (t .mover) (t .opponent) r) → AtRank n rings t same r p
 at-rank n rings t same r p f h e =
-    let b : List ℕ = unrank (8 * rings) (t .mover) (t .opponent) r in
     let w = rank-unrank (8 * rings) (t .mover) (t .opponent) r h in
-    let is : boardOf (8 * rings) p ≡ b =
-    ap (boardOf (8 * rings)) e ∙ ap (λ (m : ℕ). boardOf m (positionOf b)) (sym (w .points)) ∙ board-position b (w .values) in
+    let (placed, is) = placed-at rings (f .small) (t .mover) (t .opponent) r h p e in
     record {
-      placed = record {
-        small = f .small;
-        on = subst (λ (q : Position). OnBoard (8 * rings) q) (sym e) (subst (λ (m : ℕ). OnBoard m (positionOf b)) (w .points) (position-on b));
-      };
+      placed = placed;
       board-is = is;
       opponent-is = ap (count 2) is ∙ w .opponent;
       reads = subst (λ (x : ℕ). Reads n (8 * rings) x (count 2 (boardOf (8 * rings) p)) same (t .lower .start)) (sym (ap (count 1) is ∙ w .mover))
@@ -55,22 +63,43 @@ module _ (rings : ℕ) (t : Table) (same r : ℕ) (now : List ℕ) where
     decided-at = ap₂ (λ (y : ℕ) (c : List ℕ). decided (next rings) (λ b. probe now same (t .lower .start) y b) c) (w .opponent-is) (w .board-is)
 
   -- a place: closed, hit, or missed
-  pub place-closed : (level : ℕ) → isOpen t now r ≡ false → now ≡ sweptPlace rings t same level now r
-  unfolding sweptPlace
-  place-closed level e = rw (e, sweptPlace)
+  module _ (passes : ℕ → Bool) (level : ℕ) where
+    abbrev hits : Bool
+    hits = hit (next rings) (judged rings t same now) level (ranked rings t same r)
 
-  pub place-hit : (level : ℕ) → isOpen t now r ≡ true → hit (next rings) (judged rings t same now) level (ranked rings t same r) ≡ true
-      → set now (t .own .start + r) level ≡ sweptPlace rings t same level now r
-  unfolding sweptPlace
-  place-hit level e h = rw (e, h, sweptPlace)
+    pub place-out : passes r ≡ false → now ≡ sweptPlace rings t same passes level now r
+    unfolding sweptPlace
+    place-out c = rw (c, sweptPlace)
 
-  pub place-missed : (level : ℕ) → hit (next rings) (judged rings t same now) level (ranked rings t same r) ≡ false → now ≡ sweptPlace rings t same level now r
-  unfolding sweptPlace
-  place-missed level h = go (isOpen t now r) refl
-    where
-      go : (b : Bool) → isOpen t now r ≡ b → now ≡ sweptPlace rings t same level now r
-      go true f = rw (f, h, sweptPlace)
-      go false f = rw (f, sweptPlace)
+    pub place-closed : isOpen t now r ≡ false → now ≡ sweptPlace rings t same passes level now r
+    unfolding sweptPlace
+    place-closed e = go (passes r) refl
+      where
+        go : (b : Bool) → passes r ≡ b → now ≡ sweptPlace rings t same passes level now r
+        go true f = rw (f, e, sweptPlace)
+        go false f = rw (f, sweptPlace)
+
+    pub place-hit : passes r ≡ true → isOpen t now r ≡ true → hits ≡ true → set now (t .own .start + r) level ≡ sweptPlace rings t same passes level now r
+    unfolding sweptPlace
+    place-hit c e h = rw (c, e, h, sweptPlace)
+
+    pub place-missed : hits ≡ false → now ≡ sweptPlace rings t same passes level now r
+    unfolding sweptPlace
+    place-missed h = go (passes r) refl (isOpen t now r) refl
+      where
+        go : (a : Bool) → passes r ≡ a → (b : Bool) → isOpen t now r ≡ b → now ≡ sweptPlace rings t same passes level now r
+        go true g true f = rw (g, f, h, sweptPlace)
+        go true g false f = rw (g, f, sweptPlace)
+        go false g b f = rw (g, sweptPlace)
+
+    -- a sweep writes places and adds none
+    pub place-length : length (sweptPlace rings t same passes level now r) ≡ length now
+    unfolding sweptPlace
+    place-length = go (passes r && (isOpen t now r && hits))
+      where
+        go : (b : Bool) → length {A = ℕ} (elim b as (λ c. List ℕ) [ true ↦ set now (t .own .start + r) level | false ↦ now ]) ≡ length now
+        go true = length-set now (t .own .start + r) level
+        go false = refl
 
   pub closed-undecided : isOpen t now r ≡ false → false ≡ openDecided rings t same now r
   unfolding openDecided
@@ -81,26 +110,18 @@ module _ (rings : ℕ) (t : Table) (same r : ℕ) (now : List ℕ) where
   unfolding openDecided
   open-decided e d h = rw (e, openDecided) h
 
-  -- a sweep writes places and adds none
-  pub place-length : (level : ℕ) → length (sweptPlace rings t same level now r) ≡ length now
-  unfolding sweptPlace
-  place-length level = go (isOpen t now r && hit (next rings) (judged rings t same now) level (ranked rings t same r))
-    where
-      go : (b : Bool) → length {A = ℕ} (elim b as (λ c. List ℕ) [ true ↦ set now (t .own .start + r) level | false ↦ now ]) ≡ length now
-      go true = length-set now (t .own .start + r) level
-      go false = refl
-
 -- the places of a table, one after the other
-module _ (rings : ℕ) (t : Table) (same level : ℕ) (now : List ℕ) where
-  pub swept-none : now ≡ swept rings t same level now 0
+module _ (rings : ℕ) (t : Table) (same : ℕ) (passes : ℕ → Bool) (level : ℕ) (now : List ℕ) where
+  pub swept-none : now ≡ swept rings t same passes level now 0
   unfolding swept
   swept-none = refl
 
-  pub swept-more : (r : ℕ) (l : List ℕ) → l ≡ swept rings t same level now r → sweptPlace rings t same level l r ≡ swept rings t same level now (r + 1)
+  pub swept-more : (r : ℕ) (l : List ℕ) → l ≡ swept rings t same passes level now r
+      → sweptPlace rings t same passes level l r ≡ swept rings t same passes level now (r + 1)
   unfolding swept
   swept-more r l e = rw (e, add-one r)
 
-  pub swept-length : (n : ℕ) → length (swept rings t same level now n) ≡ length now
+  pub swept-length : (n : ℕ) → length (swept rings t same passes level now n) ≡ length now
   unfolding swept
   swept-length zero = refl
-  swept-length (suc n) = place-length rings t same n (swept rings t same level now n) level ∙ swept-length n
+  swept-length (suc n) = place-length rings t same n (swept rings t same passes level now n) passes level ∙ swept-length n

@@ -1,17 +1,23 @@
--- One level over a table, in place, as a function of the tablebase: what the loops do. Assumes nothing.
+-- One level over a table, in place, as a function of the tablebase. Assumes nothing.
 use mathlib.Core.Path.{_≡_}
 use mathlib.Core.Bool.{Bool, true, false, _&&_}
 use mathlib.Core.List.{List}
 use Prim.Native.Nat.{ℕ, zero, suc, _+_, _*_, _≤_, _<_}
 use lib.Dec.{eqb}
 use lib.ListN.{getD, set}
+use Rattle.lists.specs.Lists.{isEmpty}
 use Rattle.sizes.specs.Size.{size}
 use Rattle.ranking.specs.Unrank.{unrank}
 use Rattle.game.specs.Game.{drawEntry}
 use Rattle.game.specs.Judgement.{hit, decided}
 use Rattle.outcomes.specs.Whole.{next}
 use Rattle.probing.specs.Probes.{probe, Reads}
+use Rattle.marking.specs.Stones.{Room}
 use Rattle.sweeping.specs.declared.tables.Table.{Table}
+
+-- table t lies within a tablebase of a length
+abbrev pub Lies : ℕ → Table → ℕ → Type 0
+Lies points t length = Room points (t .mover) (t .opponent) (t .own .start) (t .own .end) length
 
 -- table t, its lower table and the table that starts at `same` lie within a tablebase of a length
 pub record Fits (length rings : ℕ) (t : Table) (same : ℕ) : Type 0 where
@@ -24,6 +30,18 @@ pub record Fits (length rings : ℕ) (t : Table) (same : ℕ) : Type 0 where
 unfoldable pub isOpen : Table → List ℕ → ℕ → Bool
 isOpen t tablebase r = eqb (getD tablebase (t .own .start + r) 0) drawEntry
 
+-- level 0: an open position whose mover is blocked gets 0
+unfoldable pub blockedPlace : ℕ → Table → List ℕ → ℕ → List ℕ
+blockedPlace rings t tablebase r = elim (isOpen t tablebase r && isEmpty (next rings (unrank (8 * rings) (t .mover) (t .opponent) r))) [
+  | true ↦ set tablebase (t .own .start + r) 0
+  | false ↦ tablebase
+]
+
+-- the first n positions
+unfoldable pub blockedFirst : ℕ → Table → List ℕ → ℕ → List ℕ
+blockedFirst rings t tablebase zero = tablebase
+blockedFirst rings t tablebase (suc n) = blockedPlace rings t (blockedFirst rings t tablebase n) n
+
 module _ (rings : ℕ) (t : Table) (same : ℕ) where
   -- the position of rank r, and the entry of one of its successors
   abbrev pub ranked : ℕ → List ℕ
@@ -32,17 +50,17 @@ module _ (rings : ℕ) (t : Table) (same : ℕ) where
   abbrev pub judged : List ℕ → List ℕ → ℕ
   judged tablebase b = probe tablebase same (t .lower .start) (t .opponent) b
 
-  -- an open position that the level hits gets it
-  unfoldable pub sweptPlace : ℕ → List ℕ → ℕ → List ℕ
-  sweptPlace level tablebase r = elim (isOpen t tablebase r && hit (next rings) (judged tablebase) level (ranked r)) [
+  -- of the positions whose ranks pass a test, an open one that the level hits gets it
+  unfoldable pub sweptPlace : (ℕ → Bool) → ℕ → List ℕ → ℕ → List ℕ
+  sweptPlace passes level tablebase r = elim (passes r && (isOpen t tablebase r && hit (next rings) (judged tablebase) level (ranked r))) [
     | true ↦ set tablebase (t .own .start + r) level
     | false ↦ tablebase
   ]
 
   -- the first n positions
-  unfoldable pub swept : ℕ → List ℕ → ℕ → List ℕ
-  swept level tablebase zero = tablebase
-  swept level tablebase (suc n) = sweptPlace level (swept level tablebase n) n
+  unfoldable pub swept : (ℕ → Bool) → ℕ → List ℕ → ℕ → List ℕ
+  swept passes level tablebase zero = tablebase
+  swept passes level tablebase (suc n) = sweptPlace passes level (swept passes level tablebase n) n
 
   -- an open position that its successors decide
   unfoldable pub openDecided : List ℕ → ℕ → Bool

@@ -1,12 +1,14 @@
-// One level over a table: each open position is judged by its successors' entries, and gets the level where they give it that depth.
+// Level 0 over a table: the blocked movers. And whether the successors of an open position decide it.
 ghost use mathlib.Core.Path.{_≡_};
-ghost use Prim.Native.Nat.{_+_, _*_, _<_};
+ghost use Prim.Native.Nat.{_+_, _*_, _≤_, _<_};
 ghost use lib.ListN.{length};
 ghost use Rattle.sizes.specs.Size.{size};
 ghost use Rattle.sizes.specs.Binomial.{BinomialTable};
-ghost use Rattle.game.specs.Game.{voidEntry};
+ghost use Rattle.board.specs.Board.{positionOf};
+ghost use Rattle.ranking.specs.Unrank.{unrank};
 ghost use Rattle.plies.specs.Masks.{NeighbourMasks, MillMasks};
-ghost use Rattle.sweeping.specs.Levels.{Fits, isOpen, sweptPlace, swept, openDecided, Found};
+ghost use Rattle.sweeping.specs.Levels.{Lies, Fits, isOpen, blockedPlace, blockedFirst, openDecided, Found};
+use super::cursor;
 use super::tables::Table;
 use parts::DRAW;
 
@@ -19,76 +21,48 @@ fn is_open(tablebase: &[u16], table: Table, r: usize) -> bool
     tablebase[own.start + r] == DRAW
 }
 
-// The position of rank r at a level.
+// The position of rank r at level 0.
 fn sweep_place(
     tablebase: &mut [u16],
-    binomials: &[u32; 625],
     near: &[u32; 24],
-    mills: &[u32; 48],
     rings: usize,
     table: Table,
-    same: usize,
-    level: u16,
+    position: board::Position,
     r: usize,
 )
-    requires { ⌜ BinomialTable (now binomials) ⌝ }
     requires { ⌜ NeighbourMasks rings (now near) ⌝ }
-    requires { ⌜ MillMasks rings (now mills) ⌝ }
-    requires { ⌜ Fits (length (now tablebase)) rings table same × (r < size (8 * rings) (table .mover) (table .opponent)) × (level < voidEntry) ⌝ }
-    ensures { λ _. ⌜ now (tablebase .exit) ≡ sweptPlace rings table same level (now (tablebase .entry)) r ⌝ }
+    requires { ⌜ (rings ≤ 3) × Lies (8 * rings) table (length (now tablebase)) × (r < size (8 * rings) (table .mover) (table .opponent)) ⌝ }
+    requires { ⌜ position ≡ positionOf (unrank (8 * rings) (table .mover) (table .opponent) r) ⌝ }
+    ensures { λ _. ⌜ now (tablebase .exit) ≡ blockedPlace rings table (now (tablebase .entry)) r ⌝ }
 {
     if is_open(tablebase, table, r) {
-        let position = ranking::unrank(binomials, 8 * rings, table.mover, table.opponent, r);
-        let lower = table.lower;
-        if probing::hits(
-            tablebase,
-            binomials,
-            near,
-            mills,
-            rings,
-            same,
-            lower.start,
-            level as u32,
-            position,
-        ) {
+        if plies::blocked(rings, near, position) {
             let own = table.own;
-            parts::write_entry(tablebase, own.start, own.end, r, level);
+            parts::write_entry(tablebase, own.start, own.end, r, 0);
         }
     }
 }
 
-// All positions of a table at a level.
-pub fn sweep_table(
+// All positions of a table at level 0.
+pub fn sweep_blocked(
     tablebase: &mut [u16],
     binomials: &[u32; 625],
     near: &[u32; 24],
-    mills: &[u32; 48],
     rings: usize,
     table: Table,
-    same: usize,
-    level: u16,
 )
     requires { ⌜ BinomialTable (now binomials) ⌝ }
     requires { ⌜ NeighbourMasks rings (now near) ⌝ }
-    requires { ⌜ MillMasks rings (now mills) ⌝ }
-    requires { ⌜ Fits (length (now tablebase)) rings table same × (level < voidEntry) ⌝ }
-    ensures { λ _. ⌜ now (tablebase .exit) ≡ swept rings table same level (now (tablebase .entry)) (size (8 * rings) (table .mover) (table .opponent)) ⌝ }
+    requires { ⌜ (rings ≤ 3) × Lies (8 * rings) table (length (now tablebase)) ⌝ }
+    ensures { λ _. ⌜ now (tablebase .exit) ≡ blockedFirst rings table (now (tablebase .entry)) (size (8 * rings) (table .mover) (table .opponent)) ⌝ }
 {
     let own = table.own;
     let size = own.end - own.start;
+    let mut at = cursor::nowhere(size);
     let mut r = 0;
     while r < size {
-        sweep_place(
-            tablebase,
-            binomials,
-            near,
-            mills,
-            rings,
-            table,
-            same,
-            level,
-            r,
-        );
+        at = cursor::seek(binomials, rings, table.mover, table.opponent, at, r);
+        sweep_place(tablebase, near, rings, table, at.position, r);
         r += 1;
     }
 }

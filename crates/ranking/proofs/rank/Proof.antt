@@ -1,82 +1,108 @@
--- `ranking::rank` meets its contract. The invariant: the counts and the rank of the points passed. Assumes nothing.
-use mathlib.Core.Path.{sym, ap, _∙_}
-use mathlib.Core.List.{List}
-use Prim.Native.Nat.{ℕ, _+_, _-_, _<_}
+-- `ranking::rank` meets its contract. The invariant: the counts and the rank of the points passed, and the stones that are left. Assumes nothing.
+use mathlib.Core.Path.{_≡_, refl, sym, ap, _∙_}
+use Prim.Native.Nat.{ℕ, suc, _+_, _-_}
 use native.Mathlib.Omega.{arith}
 use borrow.Author.Needs.{needs}
-use lib.Dec.{eqb}
-use lib.Seq.{take-all}
-use Rattle.board.specs.Board.{digit, boardOf}
-use Rattle.board.proofs.Sides.{digit-lt, length-board, board-at, board-values}
-use Rattle.ranking.specs.Rank.{rank as Rank·rank}
-use Rattle.ranking.proofs.Steps.{Ranking, ranking-none, ranking-more, Small, ranking-small, below-small}
+use Rattle.sets.specs.Sets.{without}
+use Rattle.sets.proofs.Elements.{Taken, taken}
+use Rattle.board.specs.Board.{digit}
+use Rattle.board.proofs.Sides.{digit-lt}
+use Rattle.ranking.proofs.Steps.{below-small}
+use Rattle.ranking.proofs.OnSets.{Passing, passing-none, Here, passing-here, passing-more, passing-all}
 use Rattle.ranking.proofs.rank.Statement.{statement}
 use Rattle.ranking.proofs.rank.Tie as tie
 
 abbrev Inv-loop : tie.InvT-loop
-Inv-loop binomials points position m₀ o₀ r₀ i₀ m o r i = Ranking (boardOf points position) i m o r
+Inv-loop binomials points position stones₀ o₀ r₀ left₀ stones o r left = Passing points position stones o r left
 
 abbrev μ-loop : tie.MeasureT-loop
-μ-loop binomials points position m₀ o₀ r₀ i₀ m o r i = points - i
+μ-loop binomials points position stones₀ o₀ r₀ left₀ stones o r left = left
 
--- the numbers at the loop's head
-small : (c : tie.At-loop Inv-loop μ-loop) → Small (c .loop .i) (c .loop .m) (c .loop .o) (c .loop .r)
-small c =
-    let s = c .before in
-    let a = s .args in
-    ranking-small (c .loop .inv) (board-values (a .points) (a .position) (s .pre .1 .1)) (omega (arith, length-board (a .points) (a .position)))
+-- the stone taken, and the rest
+step : (c : tie.After-lowest Inv-loop μ-loop) (rest : ℕ) → rest ≡ without (c .before .before .loop .left) (c .lowest .result)
+    → Taken 32 (c .before .before .loop .left) (c .lowest .result) rest
+step c rest e =
+    let x = c .before .before in
+    taken 32 (x .loop .left) (c .lowest .result) rest (omega arith) (x .loop .inv .within) (c .before .loop-test .taken) (c .lowest .ensures .0) e
+
+here : (c : tie.After-lowest Inv-loop μ-loop)
+    → Here (c .before .before .before .before .args .points) (c .lowest .result) (c .before .before .loop .stones) (c .before .before .loop .o)
+    (c .before .before .loop .r)
+here c =
+    let x = c .before .before in
+    let s = x .before .before in
+    let rest : ℕ = without (x .loop .left) (c .lowest .result) in
+    passing-here (s .args .points) (s .args .position) (s .pre .1 .0) (s .pre .1 .1) (x .loop .stones) (x .loop .o) (x .loop .r) (x .loop .left)
+    (c .lowest .result) rest (x .loop .inv) (step c rest refl)
 
 loop-holds : tie.Need-loop-holds Inv-loop μ-loop
-loop-holds c = ranking-none _
+loop-holds c = let s = c .before in passing-none (s .args .points) (s .args .position) (s .pre .1 .0) (s .pre .1 .1)
 
-value-at-requires : tie.Need-value-at-requires Inv-loop μ-loop
-value-at-requires c κs = search needs
+lowest-requires : tie.Need-lowest-requires Inv-loop μ-loop
+lowest-requires c κs = c .loop-test .taken
 
-cast-m : tie.Need-cast-m Inv-loop μ-loop
-cast-m c = search needs
+has-requires : tie.Need-has-requires Inv-loop μ-loop
+has-requires c κs = c .lowest .ensures .1
 
-add-m : tie.Need-add-m Inv-loop μ-loop
-add-m c = omega (arith, small (c .before .before) .mover, digit-lt (eqb (c .value-at .result) 1))
+add-stones : tie.Need-add-stones Inv-loop μ-loop
+add-stones c = omega (arith, here (c .before) .few, c .before .lowest .ensures .1)
 
 cast-o : tie.Need-cast-o Inv-loop μ-loop
 cast-o c = search needs
 
 add-o : tie.Need-add-o Inv-loop μ-loop
-add-o c = omega (arith, small (c .before .before) .opponent, digit-lt (eqb (c .value-at .result) 2))
+add-o c = omega (arith, c .before .before .before .loop .inv .some, here (c .before) .few, c .before .lowest .ensures .1, digit-lt (c .has .result))
 
-below-requires : tie.Need-below-requires Inv-loop μ-loop
-below-requires c κs =
-    let w = small (c .before .before) in
-    (c .before .before .before .pre .0, omega (arith, w .mover, w .opponent, digit-lt (eqb (c .value-at .result) 1), digit-lt (eqb (c .value-at .result) 2)))
+contribution-requires : tie.Need-contribution-requires Inv-loop μ-loop
+contribution-requires c κs =
+    let x = c .before .before .before in
+    let s = x .before .before in
+    let h = here (c .before) in
+    (s .pre .0, omega (arith, h .low, h .few, s .pre .1 .0, x .loop .inv .some, digit-lt (c .has .result)))
 
 add-r : tie.Need-add-r Inv-loop μ-loop
 add-r c =
-    let x = c .before .before .before in
-    let v = c .before .value-at .result in
-    omega (arith, small x .rank-low, c .below .ensures, below-small v (x .loop .i) (x .loop .m + digit (eqb v 1)) (x .loop .o + digit (eqb v 2)) (omega arith))
+    let k = c .before in
+    let x = k .before .before .before in
+    let d : ℕ = digit (k .has .result) in
+    let h = here (k .before) in
+    let s = x .before .before in
+    omega (
+      arith,
+      h .rank-low,
+      c .contribution .ensures,
+      below-small (suc d) (k .before .lowest .result) (x .loop .stones + 1 - (x .loop .o + d)) (x .loop .o + d) (omega (arith, h .low, s .pre .1 .0)),
+    )
 
-add-i : tie.Need-add-i Inv-loop μ-loop
-add-i c = search needs
+without-lowest-requires : tie.Need-without-lowest-requires Inv-loop μ-loop
+without-lowest-requires c κs = c .before .before .before .loop-test .taken
+
+-- what is left is the set without the stone
+left-is : (c : tie.After-without-lowest Inv-loop μ-loop)
+    → c .without-lowest .result ≡ without (c .before .before .before .before .before .loop .left) (c .before .before .before .lowest .result)
+left-is c =
+    let t = c .before .before .before in
+    c .without-lowest .ensures ∙ ap (without (t .before .before .loop .left)) (sym (t .lowest .ensures .0))
 
 loop-less : tie.Need-loop-less Inv-loop μ-loop
-loop-less c = search needs
+loop-less c = step (c .before .before .before) (c .without-lowest .result) (left-is c) .less
 
 loop-again : tie.Need-loop-again Inv-loop μ-loop
 loop-again c =
-    let x = c .before .before .before in
-    let s = x .before in
-    let a = s .args in
-    let h : x .loop .i < a .points = c .before .before .loop-test .taken in
-    ranking-more (c .before .value-at .result) (c .below .result) (x .loop .inv) (board-values (a .points) (a .position) (s .pre .1 .1))
-    (omega (arith, length-board (a .points) (a .position)))
-    (c .before .value-at .ensures ∙ sym (board-at (a .points) (a .position) (x .loop .i) h)) (c .below .ensures)
+    let k = c .before .before in
+    let t = k .before in
+    let x = t .before .before in
+    let s = x .before .before in
+    passing-more (s .args .points) (s .args .position) (s .pre .1 .0) (s .pre .1 .1) (x .loop .stones) (x .loop .o) (x .loop .r) (x .loop .left)
+    (t .lowest .result) (c .without-lowest .result) (x .loop .inv) (step t (c .without-lowest .result) (left-is c)) (k .has .result)
+    (c .before .contribution .result) (k .has .ensures) (c .before .contribution .ensures)
 
 returns : tie.Need-returns Inv-loop μ-loop
 returns c =
     let x = c .before in
-    let a = x .before .args in
-    let b : List ℕ = boardOf (a .points) (a .position) in
-    x .loop .inv .rank-is ∙ ap Rank·rank (take-all (x .loop .i) b (omega (arith, length-board (a .points) (a .position))))
+    let s = x .before .before in
+    passing-all (s .args .points) (s .args .position) (s .pre .1 .0) (s .pre .1 .1) (x .loop .stones) (x .loop .o) (x .loop .r) (x .loop .left)
+    (x .loop .inv) (c .loop-test .left)
 
 pub rank-spec : {M : Type 1} → statement M
 rank-spec =
@@ -85,14 +111,14 @@ rank-spec =
     Inv-loop
     μ-loop
     loop-holds
-    value-at-requires
-    cast-m
-    add-m
+    lowest-requires
+    has-requires
+    add-stones
     cast-o
     add-o
-    below-requires
+    contribution-requires
     add-r
-    add-i
+    without-lowest-requires
     loop-less
     loop-again
     returns)

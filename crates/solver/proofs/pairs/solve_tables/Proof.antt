@@ -1,109 +1,210 @@
 -- `solver::pairs::solve_tables` meets its contract. The invariant: what holds before a level, over the tablebase at entry. Assumes nothing.
 use mathlib.Core.Path.{_≡_, sym, ap, subst, _∙_}
+use mathlib.Core.Bool.{true, false}
 use mathlib.Core.List.{List}
-use Prim.Native.Nat.{ℕ, suc, _-_, _<_}
+use Prim.Native.Nat.{ℕ, suc, _+_, _-_, _<_}
 use native.Mathlib.Omega.{arith}
 use lib.ListN.{length}
-use Rattle.game.specs.Game.{drawEntry}
+use Rattle.game.specs.Game.{drawEntry, voidEntry}
 use Rattle.outcomes.specs.Pair.{LowerValid}
-use Rattle.solver.specs.Pairs.{PairFound, pairFilled}
+use Rattle.outcomes.specs.Filled.{BothTables, Kept}
+use Rattle.solver.specs.Pairs.{Beyond, PairFound, pairBlocked, pairFilled}
 use Rattle.solver.specs.Solve.{Setting}
-use Rattle.solver.proofs.Parts.{first-fits, second-fits}
-use Rattle.solver.proofs.States.{State, state-start}
+use Rattle.solver.proofs.Parts.{first-lies, second-lies, first-fits, second-fits, first-counted, second-counted, pair-kept}
+use Rattle.solver.proofs.States.{ExactBelow, State, state-start}
 use Rattle.solver.proofs.NextLevel.{in-room, setting-now, state-next}
-use Rattle.solver.proofs.PairSteps.{pair-length}
-use Rattle.solver.proofs.Answered.{all-true, nothing-decided, one-decided}
+use Rattle.solver.proofs.PairSteps.{least-void}
+use Rattle.solver.proofs.PairStates.{after-blocked, after-level, beyond-limit, within-limit}
+use Rattle.solver.proofs.Answered.{all-true, nothing-decided, one-decided, voided}
 use Rattle.solver.proofs.pairs.solve_tables.Statement.{statement}
 use Rattle.solver.proofs.pairs.solve_tables.Tie as tie
 
 abbrev Inv-loop : tie.InvT-loop
 Inv-loop tablebase₀ binomials near mills rings k first second limit level₀ tablebase level =
     (before : List ℕ) (s : Setting (length before) rings k (first .mover) (first .opponent) first second)
-    (valid : LowerValid rings k (first .mover) (first .opponent) before) → tablebase₀ ≡ pairFilled first second drawEntry before
-    → State rings k (first .mover) (first .opponent) first second before s valid limit level tablebase
+    (valid : LowerValid rings k (first .mover) (first .opponent) before) → tablebase₀ ≡ pairBlocked rings first second (pairFilled first second drawEntry before)
+    → (0 < level) × State rings k (first .mover) (first .opponent) first second before s valid limit level tablebase
 
 abbrev μ-loop : tie.MeasureT-loop
-μ-loop tablebase₀ binomials near mills rings k first second limit level₀ tablebase level = suc limit - level
+μ-loop tablebase₀ binomials near mills rings k first second limit level₀ tablebase level = voidEntry - level
 
--- the entry of the function, seen from the loop; the loop, seen from its end
+-- the entry of the function, seen from the loop
 abbrev entered : tie.At-loop Inv-loop μ-loop → tie.Start Inv-loop μ-loop
-entered x = x .before .before .before .before .before .before
-
-abbrev looped : tie.After-level-after Inv-loop μ-loop → tie.At-loop Inv-loop μ-loop
-looped c = c .before .before .before .before .before .before .before
+entered x = x .before .before .before .before .before .before .before .before .before .before
 
 -- what holds where the loop begins again
-state : (x : tie.At-loop Inv-loop μ-loop) → State (entered x .args .rings) (entered x .args .k) (entered x .args .first .mover)
+state : (x : tie.At-loop Inv-loop μ-loop) → (0 < x .loop .level) × State (entered x .args .rings) (entered x .args .k) (entered x .args .first .mover)
     (entered x .args .first .opponent) (entered x .args .first) (entered x .args .second) (entered x .args .tablebase .now)
     (entered x .pre .1 .1 .1 .0) (entered x .pre .1 .1 .1 .1 .0) (entered x .args .limit) (x .loop .level) (x .loop .tablebase)
-state x = x .loop .inv (entered x .args .tablebase .now) (entered x .pre .1 .1 .1 .0) (entered x .pre .1 .1 .1 .1 .0)
-    (x .before .before .before .fill-pair .ensures)
+state x =
+    let s = entered x in
+    let a = s .args in
+    x .loop .inv (a .tablebase .now) (s .pre .1 .1 .1 .0) (s .pre .1 .1 .1 .1 .0)
+    (x .before .before .before .sweep-pair .ensures
+    ∙ ap (pairBlocked (a .rings) (a .first) (a .second)) (x .before .before .before .before .before .before .before .fill-pair .ensures))
 
 here : (x : tie.At-loop Inv-loop μ-loop) → Setting (length (x .loop .tablebase)) (entered x .args .rings) (entered x .args .k)
     (entered x .args .first .mover) (entered x .args .first .opponent) (entered x .args .first) (entered x .args .second)
-here x = setting-now (length (x .loop .tablebase)) (state x .kept .same-length) (entered x .pre .1 .1 .1 .0)
+here x = setting-now (length (x .loop .tablebase)) (state x .1 .kept .same-length) (entered x .pre .1 .1 .1 .0)
 
--- one level more
-stepped : (c : tie.After-level-after Inv-loop μ-loop) (before : List ℕ)
-    (s : Setting (length before) (entered (looped c) .args .rings) (entered (looped c) .args .k) (entered (looped c) .args .first .mover)
-    (entered (looped c) .args .first .opponent)
-    (entered (looped c) .args .first) (entered (looped c) .args .second))
-    (valid : LowerValid (entered (looped c) .args .rings) (entered (looped c) .args .k) (entered (looped c) .args .first .mover)
-    (entered (looped c) .args .first .opponent) before)
-    → looped c .before .before .before .fill-pair .last .0 ≡ pairFilled (entered (looped c) .args .first) (entered (looped c) .args .second) drawEntry before
-    → (looped c .loop .level < c .level-after .result)
-    × State (entered (looped c) .args .rings) (entered (looped c) .args .k) (entered (looped c) .args .first .mover) (entered (looped c) .args .first .opponent)
-    (entered (looped c) .args .first) (entered (looped c) .args .second) before s valid (entered (looped c) .args .limit) (c .level-after .result)
-    (c .before .before .before .before .sweep-pair .last .0)
-stepped c before s valid e =
-    let x = looped c in
-    let t = entered x in
-    state-next (t .args .rings) (t .args .k) (t .args .first .mover) (t .args .first .opponent) (t .args .first) (t .args .second) before s valid
-    (t .args .limit) (x .loop .level) (x .loop .tablebase) (t .pre .1 .1 .1 .1 .1) (c .before .before .before .before .before .before .loop-test .taken)
-    (x .loop .inv before s valid e)
-    (c .before .before .before .before .sweep-pair .last .0) (c .before .before .before .before .sweep-pair .ensures) (c .level-after .result)
-    (c .level-after .ensures)
+-- a level is done, over any tablebase at entry
+module _ (c : tie.After-level-pair Inv-loop μ-loop) (before : List ℕ)
+    (s : Setting (length before) (entered (c .before .before .before) .args .rings) (entered (c .before .before .before) .args .k)
+    (entered (c .before .before .before) .args .first .mover) (entered (c .before .before .before) .args .first .opponent)
+    (entered (c .before .before .before) .args .first) (entered (c .before .before .before) .args .second))
+    (valid : LowerValid (entered (c .before .before .before) .args .rings) (entered (c .before .before .before) .args .k)
+    (entered (c .before .before .before) .args .first .mover) (entered (c .before .before .before) .args .first .opponent) before)
+    (st : State (entered (c .before .before .before) .args .rings) (entered (c .before .before .before) .args .k)
+    (entered (c .before .before .before) .args .first .mover) (entered (c .before .before .before) .args .first .opponent)
+    (entered (c .before .before .before) .args .first) (entered (c .before .before .before) .args .second) before s valid
+    (entered (c .before .before .before) .args .limit) (c .before .before .before .loop .level) (c .before .before .before .loop .tablebase)) where
+  levelled : Kept (entered (c .before .before .before) .args .rings) (entered (c .before .before .before) .args .k)
+      (BothTables (entered (c .before .before .before) .args .first .mover) (entered (c .before .before .before) .args .first .opponent)) before
+      (c .level-pair .last .0)
+      × ExactBelow (entered (c .before .before .before) .args .rings) (entered (c .before .before .before) .args .k)
+      (entered (c .before .before .before) .args .first .mover) (entered (c .before .before .before) .args .first .opponent)
+      (entered (c .before .before .before) .args .first) (entered (c .before .before .before) .args .second) before s valid
+      (suc (c .before .before .before .loop .level)) (c .level-pair .last .0)
+  levelled =
+      let x = c .before .before .before in
+      let a = entered x .args in
+      after-level (a .rings) (a .k) (a .first .mover) (a .first .opponent) (a .first) (a .second) before s valid (a .limit) (x .loop .level)
+      (state x .0) (c .before .before .loop-test .taken) (x .loop .tablebase) st (c .level-pair .last .0) (c .level-pair .ensures)
+
+-- the tables are where they were
+there : (c : tie.After-level-pair Inv-loop μ-loop) → Setting (length (c .level-pair .last .0)) (entered (c .before .before .before) .args .rings)
+    (entered (c .before .before .before) .args .k) (entered (c .before .before .before) .args .first .mover)
+    (entered (c .before .before .before) .args .first .opponent) (entered (c .before .before .before) .args .first)
+    (entered (c .before .before .before) .args .second)
+there c =
+    let x = c .before .before .before in
+    let s = entered x in
+    setting-now (length (c .level-pair .last .0))
+    (levelled c (s .args .tablebase .now) (s .pre .1 .1 .1 .0) (s .pre .1 .1 .1 .1 .0) (state x .1) .0 .same-length) (s .pre .1 .1 .1 .0)
 
 fill-pair-requires : tie.Need-fill-pair-requires Inv-loop μ-loop
 fill-pair-requires c κs = in-room (c .before .before .pre .1 .1 .1 .0)
 
-loop-holds : tie.Need-loop-holds Inv-loop μ-loop
-loop-holds c =
-    λ before s valid e. subst (State _ _ _ _ _ _ before s valid _ 0) (sym e) (state-start _ _ _ _ _ _ before s valid _)
-
 sweep-pair-requires : tie.Need-sweep-pair-requires Inv-loop μ-loop
 sweep-pair-requires c κs =
+    let f = c .before .before .before in
+    let s = f .before .before .before in
+    let a = s .args in
+    let w = setting-now (length (f .fill-pair .last .0)) (ap length (f .fill-pair .ensures)
+    ∙ pair-kept (a .rings) (a .k) (a .first .mover) (a .first .opponent) (a .first) (a .second) (a .tablebase .now) (s .pre .1 .1 .1 .0) drawEntry .same-length)
+    (s .pre .1 .1 .1 .0) in
+    (s .pre .0, (s .pre .1 .0, (w .pair .small, first-lies w, second-lies w)))
+
+loop-holds : tie.Need-loop-holds Inv-loop μ-loop
+loop-holds c =
+    let a = c .before .before .before .before .before .before .before .before .before .args in
+    λ before s valid e.
+    (omega arith, after-blocked (a .rings) (a .k) (a .first .mover) (a .first .opponent) (a .first) (a .second) before s valid (a .limit) _
+    (state-start (a .rings) (a .k) (a .first .mover) (a .first .opponent) (a .first) (a .second) before s valid (a .limit)) _ e)
+
+level-pair-requires : tie.Need-level-pair-requires Inv-loop μ-loop
+level-pair-requires c κs =
     let x = c .before .before in
     let s = entered x in
-    let w = here x in
-    (s .pre .0, (s .pre .1 .0, (s .pre .1 .1 .0, (first-fits w, second-fits w, omega (arith, c .before .loop-test .taken, s .pre .1 .1 .1 .1 .1)))))
+    let w = here x in (
+      s .pre .0,
+      (
+        s .pre .1 .0,
+        (s .pre .1 .1 .0, (first-fits w, first-counted w, second-fits w, second-counted w, state x .0, c .before .loop-test .taken)),
+      ),
+    )
 
-level-after-requires : tie.Need-level-after-requires Inv-loop μ-loop
-level-after-requires c κs =
-    let x = c .before .before .before .before .before .before in
-    let a = entered x .args in
-    in-room (setting-now (length (c .before .before .before .sweep-pair .last .0)) (ap length (c .before .before .before .sweep-pair .ensures)
-    ∙ pair-length (a .rings) (a .first) (a .second) (x .loop .level) (x .loop .tablebase)) (here x))
+beyond-requires : tie.Need-beyond-requires Inv-loop μ-loop
+beyond-requires c κs = in-room (there (c .before .before .before))
 
-loop-less : tie.Need-loop-less Inv-loop μ-loop
-loop-less c =
-    let x = looped c in
-    let s = entered x in
-    let n = stepped c (s .args .tablebase .now) (s .pre .1 .1 .1 .0) (s .pre .1 .1 .1 .1 .0) (x .before .before .before .fill-pair .ensures) in
-    omega (arith, n .0, c .before .before .before .before .before .before .loop-test .taken)
-
-loop-again : tie.Need-loop-again Inv-loop μ-loop
-loop-again c = λ before s valid e. stepped c before s valid e .1
-
-same-length : tie.Need-same-length Inv-loop μ-loop
-same-length c = state (c .before .before) .kept .same-length
+fill-pair-requires-2 : tie.Need-fill-pair-requires-2 Inv-loop μ-loop
+fill-pair-requires-2 c κs = in-room (there (c .before .before .before .before .before .before))
 
 returns : tie.Need-returns Inv-loop μ-loop
 returns c =
+    let t = c .before .before .before .before in
+    let l = t .before .before .before .before .before in
+    let x = l .before .before .before in
+    let s = entered x in
+    let a = s .args in
+    let w = levelled l (a .tablebase .now) (s .pre .1 .1 .1 .0) (s .pre .1 .1 .1 .1 .0) (state x .1) in
+    voided (a .rings) (a .k) (a .first .mover) (a .first .opponent) (a .first) (a .second) (a .tablebase .now) (l .level-pair .last .0)
+    (c .before .before .fill-pair2 .last .0) (s .pre .1 .1 .1 .0) (w .0) (a .limit) _
+    (beyond-limit (a .rings) (a .k) (a .first .mover) (a .first .opponent) (a .first) (a .second) (a .tablebase .now) (s .pre .1 .1 .1 .0)
+    (s .pre .1 .1 .1 .1 .0) (a .limit) (x .loop .level) (state x .0) (l .before .before .loop-test .taken) (x .loop .tablebase) (state x .1)
+    (l .level-pair .last .0) (w .1)
+    (subst (Beyond (a .first) (a .second) (a .limit) (x .loop .level) (l .level-pair .last .0)) (t .if1 .taken) (t .before .beyond .ensures)))
+    (c .before .before .fill-pair2 .ensures)
+
+same-length : tie.Need-same-length Inv-loop μ-loop
+same-length c = returns c .kept .same-length
+
+pair-least-requires : tie.Need-pair-least-requires Inv-loop μ-loop
+pair-least-requires c κs =
+    let l = c .before .before .before .before .before .before in
+    (in-room (there l), l .before .before .loop-test .taken)
+
+add-level : tie.Need-add-level Inv-loop μ-loop
+add-level c =
+    let l = c .before .before .before .before .before .before .before in
+    let x = l .before .before .before in
+    let a = entered x .args in
+    omega (arith, c .pair-least .ensures, least-void (a .first) (a .second) (x .loop .level) (l .level-pair .last .0))
+
+-- one level more
+stepped : (c : tie.After-pair-least Inv-loop μ-loop) (before : List ℕ)
+    (s : Setting (length before) (entered (c .before .before .before .before .before .before .before .before .before .before) .args .rings)
+    (entered (c .before .before .before .before .before .before .before .before .before .before) .args .k)
+    (entered (c .before .before .before .before .before .before .before .before .before .before) .args .first .mover)
+    (entered (c .before .before .before .before .before .before .before .before .before .before) .args .first .opponent)
+    (entered (c .before .before .before .before .before .before .before .before .before .before) .args .first)
+    (entered (c .before .before .before .before .before .before .before .before .before .before) .args .second))
+    (valid : LowerValid (entered (c .before .before .before .before .before .before .before .before .before .before) .args .rings)
+    (entered (c .before .before .before .before .before .before .before .before .before .before) .args .k)
+    (entered (c .before .before .before .before .before .before .before .before .before .before) .args .first .mover)
+    (entered (c .before .before .before .before .before .before .before .before .before .before) .args .first .opponent) before)
+    → State _ _ _ _ _ _ before s valid (entered (c .before .before .before .before .before .before .before .before .before .before) .args .limit)
+    (c .before .before .before .before .before .before .before .before .before .before .loop .level)
+    (c .before .before .before .before .before .before .before .before .before .before .loop .tablebase)
+    → (c .before .before .before .before .before .before .before .before .before .before .loop .level < 1 + c .pair-least .result)
+    × State _ _ _ _ _ _ before s valid (entered (c .before .before .before .before .before .before .before .before .before .before) .args .limit)
+    (1 + c .pair-least .result) (c .before .before .before .before .before .before .before .level-pair .last .0)
+stepped c before s valid st =
+    let e = c .before .before in
+    let l = e .before .before .before .before .before in
+    let x = l .before .before .before in
+    let a = entered x .args in
+    let w = levelled l before s valid st in
+    state-next (a .rings) (a .k) (a .first .mover) (a .first .opponent) (a .first) (a .second) before s valid (a .limit) (x .loop .level) (state x .0)
+    (l .before .before .loop-test .taken) (l .level-pair .last .0) (w .0) (w .1)
+    (within-limit (a .rings) (a .k) (a .first .mover) (a .first .opponent) (a .first) (a .second) before s valid (a .limit) (x .loop .level) (state x .0)
+    (l .before .before .loop-test .taken) (x .loop .tablebase) st (l .level-pair .last .0) (w .1)
+    (subst (Beyond (a .first) (a .second) (a .limit) (x .loop .level) (l .level-pair .last .0)) (e .if1 .left) (e .before .beyond .ensures)))
+    (1 + c .pair-least .result) (omega (arith, c .pair-least .ensures))
+
+loop-less : tie.Need-loop-less Inv-loop μ-loop
+loop-less c =
+    let l = c .before .before .before .before .before .before .before in
+    let x = l .before .before .before in
+    let s = entered x in
+    let n = stepped c (s .args .tablebase .now) (s .pre .1 .1 .1 .0) (s .pre .1 .1 .1 .1 .0) (state x .1) in
+    omega (arith, n .0, l .before .before .loop-test .taken)
+
+loop-again : tie.Need-loop-again Inv-loop μ-loop
+loop-again c =
+    let x = c .before .before .before .before .before .before .before .before .before .before in
+    λ before s valid e. let n = stepped c before s valid (x .loop .inv before s valid e .1) in (omega (arith, n .0), n .1)
+
+same-length-2 : tie.Need-same-length-2 Inv-loop μ-loop
+same-length-2 c = state (c .before .before) .1 .kept .same-length
+
+returns-2 : tie.Need-returns-2 Inv-loop μ-loop
+returns-2 c =
     let x = c .before .before in
     let s = entered x in
-    all-true (s .args .rings) (s .args .k) (s .args .first .mover) (s .args .first .opponent) (s .args .first) (s .args .second) (s .args .tablebase .now)
-    (s .pre .1 .1 .1 .0) (s .pre .1 .1 .1 .1 .0) (s .args .limit) (x .loop .level) (x .loop .tablebase) (state x) (state x .over (c .if1 .taken))
+    let a = s .args in
+    all-true (a .rings) (a .k) (a .first .mover) (a .first .opponent) (a .first) (a .second) (a .tablebase .now)
+    (s .pre .1 .1 .1 .0) (s .pre .1 .1 .1 .1 .0) (a .limit) (x .loop .level) (x .loop .tablebase) (state x .1) (state x .1 .over (c .if2 .taken))
 
 pair-decided-requires : tie.Need-pair-decided-requires Inv-loop μ-loop
 pair-decided-requires c κs =
@@ -112,35 +213,38 @@ pair-decided-requires c κs =
     let w = here x in
     (s .pre .0, (s .pre .1 .0, (s .pre .1 .1 .0, (first-fits w, second-fits w))))
 
-fill-pair-requires-2 : tie.Need-fill-pair-requires-2 Inv-loop μ-loop
-fill-pair-requires-2 c κs = in-room (here (c .before .before .before .before .before .before))
-
-returns-2 : tie.Need-returns-2 Inv-loop μ-loop
-returns-2 c =
-    let x = c .before .before .before .before .before .before .before .before .before in
-    let s = entered x in
-    one-decided (s .args .rings) (s .args .k) (s .args .first .mover) (s .args .first .opponent) (s .args .first) (s .args .second) (s .args .tablebase .now)
-    (s .pre .1 .1 .1 .0) (s .pre .1 .1 .1 .1 .0) (s .args .limit) (x .loop .level) (x .loop .tablebase) (state x)
-    (omega (arith, c .before .before .before .before .before .before .before .before .loop-test .left))
-    (omega (arith, c .before .before .before .before .before .before .before .if1 .left))
-    (subst (PairFound (s .args .rings) (s .args .first) (s .args .second) (x .loop .tablebase)) (c .before .before .before .before .if2 .taken)
-    (c .before .before .before .before .before .pair-decided .ensures))
-    (c .before .before .fill-pair2 .last .0) (c .before .before .fill-pair2 .ensures)
-
-same-length-2 : tie.Need-same-length-2 Inv-loop μ-loop
-same-length-2 c = returns-2 c .kept .same-length
-
-same-length-3 : tie.Need-same-length-3 Inv-loop μ-loop
-same-length-3 c = state (c .before .before .before .before .before) .kept .same-length
+fill-pair-requires-3 : tie.Need-fill-pair-requires-3 Inv-loop μ-loop
+fill-pair-requires-3 c κs = in-room (here (c .before .before .before .before .before .before))
 
 returns-3 : tie.Need-returns-3 Inv-loop μ-loop
 returns-3 c =
+    let t = c .before .before .before .before in
+    let x = t .before .before .before .before .before in
+    let s = entered x in
+    let a = s .args in
+    voided (a .rings) (a .k) (a .first .mover) (a .first .opponent) (a .first) (a .second) (a .tablebase .now) (x .loop .tablebase)
+    (c .before .before .fill-pair3 .last .0) (s .pre .1 .1 .1 .0) (state x .1 .kept) (a .limit) _
+    (one-decided (a .rings) (a .k) (a .first .mover) (a .first .opponent) (a .first) (a .second) (a .tablebase .now)
+    (s .pre .1 .1 .1 .0) (s .pre .1 .1 .1 .1 .0) (a .limit) (x .loop .level) (x .loop .tablebase) (state x .1)
+    (omega (arith, t .before .before .before .before .loop-test .left, s .pre .1 .1 .1 .1 .1)) (omega (arith, t .before .before .before .if2 .left))
+    (subst (PairFound (a .rings) (a .first) (a .second) (x .loop .tablebase)) (t .if3 .taken) (t .before .pair-decided .ensures)))
+    (c .before .before .fill-pair3 .ensures)
+
+same-length-3 : tie.Need-same-length-3 Inv-loop μ-loop
+same-length-3 c = returns-3 c .kept .same-length
+
+same-length-4 : tie.Need-same-length-4 Inv-loop μ-loop
+same-length-4 c = state (c .before .before .before .before .before) .1 .kept .same-length
+
+returns-4 : tie.Need-returns-4 Inv-loop μ-loop
+returns-4 c =
     let x = c .before .before .before .before .before in
     let s = entered x in
-    nothing-decided (s .args .rings) (s .args .k) (s .args .first .mover) (s .args .first .opponent) (s .args .first) (s .args .second) (s .args .tablebase .now)
-    (s .pre .1 .1 .1 .0) (s .pre .1 .1 .1 .1 .0) (s .args .limit) (x .loop .level) (x .loop .tablebase) (state x)
-    (omega (arith, c .before .before .before .before .loop-test .left)) (omega (arith, c .before .before .before .if1 .left))
-    (subst (PairFound (s .args .rings) (s .args .first) (s .args .second) (x .loop .tablebase)) (c .if2 .left) (c .before .pair-decided .ensures))
+    let a = s .args in
+    nothing-decided (a .rings) (a .k) (a .first .mover) (a .first .opponent) (a .first) (a .second) (a .tablebase .now)
+    (s .pre .1 .1 .1 .0) (s .pre .1 .1 .1 .1 .0) (a .limit) (x .loop .level) (x .loop .tablebase) (state x .1)
+    (omega (arith, c .before .before .before .before .loop-test .left, s .pre .1 .1 .1 .1 .1)) (omega (arith, c .before .before .before .if2 .left))
+    (subst (PairFound (a .rings) (a .first) (a .second) (x .loop .tablebase)) (c .if3 .left) (c .before .pair-decided .ensures))
 
 pub solve-tables-spec : {M : Type 1} → statement M
 solve-tables-spec =
@@ -149,16 +253,22 @@ solve-tables-spec =
     Inv-loop
     μ-loop
     fill-pair-requires
-    loop-holds
     sweep-pair-requires
-    level-after-requires
-    loop-less
-    loop-again
+    loop-holds
+    level-pair-requires
+    beyond-requires
+    fill-pair-requires-2
     same-length
     returns
-    pair-decided-requires
-    fill-pair-requires-2
+    pair-least-requires
+    add-level
+    loop-less
+    loop-again
     same-length-2
     returns-2
+    pair-decided-requires
+    fill-pair-requires-3
     same-length-3
-    returns-3)
+    returns-3
+    same-length-4
+    returns-4)

@@ -1,39 +1,34 @@
 -- `sweeping::levels::sweep_place` meets its contract. Assumes nothing.
-use mathlib.Core.Path.{sym, _∙_}
-use lib.ListN.{length}
-use Rattle.sweeping.proofs.AtRank.{AtRank, at-rank, hit-at, place-closed, place-hit, place-missed}
+use mathlib.Core.Path.{_≡_, sym, ap, _∙_}
+use mathlib.Core.List.{List}
+use Prim.Native.Nat.{ℕ, _*_}
+use Rattle.lists.specs.Lists.{isEmpty}
+use Rattle.board.specs.Board.{boardOf}
+use Rattle.ranking.specs.Unrank.{unrank}
+use Rattle.rules.specs.Ply.{listedMoves}
+use Rattle.plies.specs.Positions.{Placed}
+use Rattle.outcomes.specs.Whole.{next}
+use Rattle.sweeping.proofs.AtRank.{placed-at}
+use Rattle.sweeping.proofs.LevelZero.{no-successor, place-closed, place-blocked, place-free}
 use borrow.Author.Needs.{needs}
 use Rattle.sweeping.proofs.levels.sweep_place.Statement.{statement}
 use Rattle.sweeping.proofs.levels.sweep_place.Tie as tie
-use Rattle.sweeping.proofs.levels.sweep_place.Reads as reads
 
--- the entry of the function, seen from where the position is known
-abbrev entered : tie.After-unrank → tie.Start
-entered c = c .before .before .before .before .before
-
--- the position that is judged
-found : (c : tie.After-unrank)
-    → AtRank (length (entered c .args .tablebase .now)) (entered c .args .rings) (entered c .args .table)
-    (entered c .args .same) (entered c .args .r) (c .unrank .result)
-found c =
-    let s = entered c in
-    at-rank (length (s .args .tablebase .now)) (s .args .rings) (s .args .table) (s .args .same) (s .args .r) (c .unrank .result)
-    (s .pre .1 .1 .1 .0) (s .pre .1 .1 .1 .1) (c .unrank .ensures)
+-- the position of the rank, and that its board has a move exactly where it has a successor
+found : (s : tie.Start)
+    → Placed (s .args .rings) (s .args .position)
+    × (isEmpty (listedMoves (s .args .rings) (boardOf (8 * s .args .rings) (s .args .position)))
+    ≡ isEmpty (next (s .args .rings) (unrank (8 * s .args .rings) (s .args .table .mover) (s .args .table .opponent) (s .args .r))))
+found s =
+    let a = s .args in
+    let w = placed-at (a .rings) (s .pre .1 .0 .0) (a .table .mover) (a .table .opponent) (a .r) (s .pre .1 .0 .2) (a .position) (s .pre .1 .1) in
+    (w .0, no-successor (a .rings) (boardOf (8 * a .rings) (a .position)) ∙ ap (λ (b : List ℕ). isEmpty (next (a .rings) b)) (w .1))
 
 is-open-requires : tie.Need-is-open-requires
 is-open-requires c κs = search needs
 
-mul-unrank : tie.Need-mul-unrank
-mul-unrank c = search needs
-
-unrank-requires : tie.Need-unrank-requires
-unrank-requires c κs = search needs
-
-hits-requires : tie.Need-hits-requires
-hits-requires c κs =
-    let s = c .before .before .before .before .before .before .before in
-    let w = found (c .before .before) in
-    (s .pre .0, (s .pre .1 .0, (s .pre .1 .1 .0, (w .placed, (w .reads, s .pre .1 .1 .1 .2)))))
+blocked-requires : tie.Need-blocked-requires
+blocked-requires c κs = let s = c .before .before .before .before in (s .pre .0, found s .0)
 
 write-entry-requires : tie.Need-write-entry-requires
 write-entry-requires c κs = search needs
@@ -44,41 +39,36 @@ same-length c = search needs
 returns : tie.Need-returns
 returns c =
     let t = c .before .before .before .before .before in
-    let u = t .before .before .before .before in
-    let s = u .before .before .before .before .before in
-    c .before .before .write-entry .ensures ∙ place-hit (s .args .rings) (s .args .table) (s .args .same) (s .args .r) (s .args .tablebase .now)
-    (s .args .level) (sym (u .before .before .is-open .ensures) ∙ u .before .if1 .taken)
-    (sym (hit-at (s .args .rings) (s .args .table) (s .args .same) (s .args .r) (s .args .tablebase .now) (length (s .args .tablebase .now))
-    (u .unrank .result) (found u) (s .args .level)) ∙ sym (t .before .hits .ensures) ∙ t .if2 .taken)
+    let s = t .before .before .before .before .before .before in
+    let a = s .args in
+    c .before .before .write-entry .ensures
+    ∙ place-blocked (a .rings) (a .table) (a .r) (a .tablebase .now) (sym (t .before .before .before .is-open .ensures) ∙ t .before .before .if1 .taken)
+    (sym (found s .1) ∙ sym (t .before .blocked .ensures) ∙ t .if2 .taken)
 
 same-length-2 : tie.Need-same-length-2
 same-length-2 c = search needs
 
 returns-2 : tie.Need-returns-2
 returns-2 c =
-    let u = c .before .before .before .before in
-    let s = u .before .before .before .before .before in
-    place-missed (s .args .rings) (s .args .table) (s .args .same) (s .args .r) (s .args .tablebase .now) (s .args .level)
-    (sym (hit-at (s .args .rings) (s .args .table) (s .args .same) (s .args .r) (s .args .tablebase .now) (length (s .args .tablebase .now))
-    (u .unrank .result) (found u) (s .args .level)) ∙ sym (c .before .hits .ensures) ∙ c .if2 .left)
+    let s = c .before .before .before .before .before .before in
+    let a = s .args in
+    place-free (a .rings) (a .table) (a .r) (a .tablebase .now) (sym (c .before .before .before .is-open .ensures) ∙ c .before .before .if1 .taken)
+    (sym (found s .1) ∙ sym (c .before .blocked .ensures) ∙ c .if2 .left)
 
 same-length-3 : tie.Need-same-length-3
 same-length-3 c = search needs
 
 returns-3 : tie.Need-returns-3
 returns-3 c =
-    let s = c .before .before .before .before in
-    place-closed (s .args .rings) (s .args .table) (s .args .same) (s .args .r) (s .args .tablebase .now) (s .args .level)
-    (sym (c .before .is-open .ensures) ∙ c .if1 .left)
+    let a = c .before .before .before .before .args in
+    place-closed (a .rings) (a .table) (a .r) (a .tablebase .now) (sym (c .before .is-open .ensures) ∙ c .if1 .left)
 
 pub sweep-place-spec : {M : Type 1} → statement M
 sweep-place-spec =
     tie.close
     (tie.spec
     is-open-requires
-    mul-unrank
-    unrank-requires
-    hits-requires
+    blocked-requires
     write-entry-requires
     same-length
     returns

@@ -1,0 +1,5 @@
+pub mod Before
+pub mod Marks
+pub mod Marking
+pub mod Puts
+pub mod Stones

@@ -1,0 +1,78 @@
+-- `marking::mark_stone` meets its contract. Assumes nothing.
+use mathlib.Core.Path.{sym, ap, _∙_}
+use mathlib.Core.List.{List}
+use Prim.Native.Nat.{ℕ, _*_}
+use Rattle.lists.specs.Lists.{each}
+use Rattle.sets.proofs.Elements.{bit-low}
+use Rattle.board.specs.Board.{boardOf}
+use Rattle.rules.specs.Predecessors.{restored}
+use Rattle.plies.proofs.OnPositions.{opponent-small}
+use Rattle.marking.specs.Marks.{marked, places}
+use Rattle.marking.proofs.Marks.{marked-none}
+use Rattle.marking.proofs.Before.{turned-placed}
+use Rattle.marking.proofs.Stones.{origins-given, origins-vacant, stone-moved, stone-still}
+use borrow.Author.Needs.{needs}
+use Rattle.marking.proofs.mark_stone.Statement.{statement}
+use Rattle.marking.proofs.mark_stone.Tie as tie
+
+may-have-moved-requires : tie.Need-may-have-moved-requires
+may-have-moved-requires c κs =
+    let s = c .before in
+    let a = s .args in
+    let p = s .pre .1 .1 .1 .0 in
+    let l = bit-low 24 (a .position .opponent) (a .to) (opponent-small (a .rings) (a .position) p) (s .pre .1 .1 .1 .1 .1) in
+    (s .pre .1 .1 .0, (p, l))
+
+targets-requires : tie.Need-targets-requires
+targets-requires c κs =
+    let s = c .before .before .before in
+    let a = s .args in
+    let p = s .pre .1 .1 .1 .0 in
+    let l = bit-low 24 (a .position .opponent) (a .to) (opponent-small (a .rings) (a .position) p) (s .pre .1 .1 .1 .1 .1) in
+    (s .pre .1 .0, (turned-placed (a .rings) (a .position) p, l))
+
+mark-origins-requires : tie.Need-mark-origins-requires
+mark-origins-requires c κs =
+    let t = c .before in
+    let s = t .before .before .before .before in
+    let a = s .args in
+    let p = s .pre .1 .1 .1 .0 in
+    let g = s .pre .1 .1 .1 .1 in
+    (s .pre .0, (p, (g .0, (g .1, origins-vacant (a .rings) (a .position) p (a .to) (t .targets .result) (g .1) (t .targets .ensures)))))
+
+same-length : tie.Need-same-length
+same-length c = search needs
+
+returns : tie.Need-returns
+returns c =
+    let m = c .before .before in
+    let t = m .before .before in
+    let i = t .before in
+    let s = i .before .before .before in
+    let a = s .args in
+    let p = s .pre .1 .1 .1 .0 in
+    let b : List ℕ = boardOf (8 * a .rings) (a .position) in
+    m .mark-origins .ensures
+    ∙ ap (λ (l : List (List ℕ)). marked (places (a .start) l) (a .tablebase .now))
+    (ap (each (λ from. restored (a .capture) (a .rings) b (a .to) from))
+    (origins-given (a .rings) (a .position) p (a .to) (t .targets .result) (t .targets .ensures))
+    ∙ sym (stone-moved (a .rings) (a .position) p (a .capture) (a .to) (sym (i .before .may-have-moved .ensures) ∙ i .if1 .taken)))
+
+returns-2 : tie.Need-returns-2
+returns-2 c =
+    let s = c .before .before .before in
+    let a = s .args in
+    sym (ap (λ (l : List (List ℕ)). marked (places (a .start) l) (a .tablebase .now))
+    (stone-still (a .rings) (a .position) (s .pre .1 .1 .1 .0) (a .capture) (a .to) (sym (c .before .may-have-moved .ensures) ∙ c .if1 .left))
+    ∙ marked-none (a .tablebase .now))
+
+pub mark-stone-spec : {M : Type 1} → statement M
+mark-stone-spec =
+    tie.close
+    (tie.spec
+    may-have-moved-requires
+    targets-requires
+    mark-origins-requires
+    same-length
+    returns
+    returns-2)

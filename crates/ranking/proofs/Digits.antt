@@ -1,0 +1,126 @@
+-- Digits of a union and of a difference of sets, the set without its least member, and what a point's digits say of a board's stones. Assumes
+-- nothing.
+use mathlib.Core.Path.{_≡_, sym, ap, ap₂, _∙_, subst}
+use mathlib.Core.Bool.{true, false}
+use mathlib.Core.List.{List, _∷_, List·Memᴰ, List·Memᴰ·cases-cons}
+use mathlib.Core.Logic.{⊎-elim}
+use Prim.Native.Nat.{ℕ, zero, suc, _+_, _-_, _*_, _/_, _%_, _^_, _≤_, _<_, min, max}
+use native.Mathlib.Nat.{pow-suc}
+use native.Mathlib.Omega.{arith}
+use lib.Arith.{digits-div, digits-mod}
+use lib.Bits.{bitAnd, bitOr, and-step, and-self, and-le-l, or-step, or-shr}
+use lib.ListN.{getD}
+use lib.Pow.{pow-pos}
+use borrow.Author.Tests.{eqb-true, eqb-false}
+use Rattle.lists.specs.Lists.{Rising}
+use Rattle.lists.proofs.Rises.{above-member}
+use Rattle.sets.specs.Sets.{bit, has, without, elements, lowest}
+use Rattle.sets.proofs.Laws.{bit-zero, bit-suc, bit-lt, bit-le, bit-cases, without-member}
+use Rattle.sets.proofs.Elements.{is-element, elements-rising, elements-lowest, lowest-member, lowest-low}
+use Rattle.ranking.specs.Ends.{Ends}
+use Rattle.board.specs.declared.position.Position.{Position}
+use Rattle.board.specs.Board.{digit, valueAt, boardOf, OnBoard}
+use Rattle.board.proofs.Sides.{board-at}
+use Rattle.board.proofs.OneToOne.{vacant-at}
+
+or-odd : (s t : ℕ) → bitOr s t % 2 ≡ max (s % 2) (t % 2)
+or-odd s t = ap (λ (x : ℕ). x % 2) (or-step s t) ∙ digits-mod (bitOr (s / 2) (t / 2)) (omega arith)
+
+pub bit-or : (s t p : ℕ) → bit (bitOr s t) p ≡ max (bit s p) (bit t p)
+bit-or s t p = ap (λ (x : ℕ). x % 2) (or-shr s t p) ∙ or-odd (s / 2 ^ p) (t / 2 ^ p)
+
+-- the digits of a difference, and so where the runs of a set end
+less : (h a d e : ℕ) → a ≤ h → e ≤ d → h * 2 + d - (a * 2 + e) ≡ (h - a) * 2 + (d - e)
+less h a d e k l = omega arith
+
+minus-step : (s t : ℕ) → s - bitAnd s t ≡ (s / 2 - bitAnd (s / 2) (t / 2)) * 2 + (s % 2 - min (s % 2) (t % 2))
+minus-step s t =
+    let e : s ≡ s / 2 * 2 + s % 2 = omega arith in
+    ap₂ _-_ e (and-step s t) ∙ less (s / 2) (bitAnd (s / 2) (t / 2)) (s % 2) (min (s % 2) (t % 2)) (and-le-l (s / 2) (t / 2)) (omega arith)
+
+minus-lt : (s t : ℕ) → s % 2 - min (s % 2) (t % 2) < 2
+minus-lt s t = omega arith
+
+bit-minus : (s t p : ℕ) → bit (s - bitAnd s t) p ≡ bit s p - min (bit s p) (bit t p)
+bit-minus s t zero =
+    bit-zero (s - bitAnd s t) ∙ ap (λ (x : ℕ). x % 2) (minus-step s t) ∙ digits-mod (s / 2 - bitAnd (s / 2) (t / 2)) (minus-lt s t)
+    ∙ ap₂ (λ (x y : ℕ). x - min x y) (sym (bit-zero s)) (sym (bit-zero t))
+bit-minus s t (suc p) =
+    let h : (s - bitAnd s t) / 2 ≡ s / 2 - bitAnd (s / 2) (t / 2) =
+    ap (λ (x : ℕ). x / 2) (minus-step s t) ∙ digits-div (s / 2 - bitAnd (s / 2) (t / 2)) (minus-lt s t) in
+    bit-suc (s - bitAnd s t) p ∙ ap (λ (x : ℕ). bit x p) h ∙ bit-minus (s / 2) (t / 2) p
+    ∙ ap₂ (λ (x y : ℕ). x - min x y) (sym (bit-suc s p)) (sym (bit-suc t p))
+
+bit-double : (s q : ℕ) → bit (2 * s) (suc q) ≡ bit s q
+bit-double s q = let e : 2 * s / 2 ≡ s = omega arith in bit-suc (2 * s) q ∙ ap (λ (x : ℕ). bit x q) e
+
+pub ends-are : (s : ℕ) → s < 2 ^ 24 → Ends s (2 * s - bitAnd (2 * s) s)
+ends-are s h = record {
+  first = bit-minus (2 * s) s 0 ∙ omega (arith, bit-zero (2 * s));
+  after = λ q. bit-minus (2 * s) s (suc q) ∙ ap (λ (x : ℕ). x - min x (bit s (suc q))) (bit-double s q);
+  within = omega arith;
+}
+
+-- no member is below the least
+pub below-lowest : (s q : ℕ) → s < 2 ^ 32 → (s ≡ 0 → ⊥) → q < lowest s → bit s q ≡ 0
+below-lowest s q fits some h = ⊎-elim (λ z. z) (λ o. absurd (no o)) (bit-cases s q)
+  where
+    apart : elements 32 s ≡ lowest s ∷ elements 32 (without s (lowest s))
+    apart = elements-lowest s fits some
+
+    rising : Rising (lowest s ∷ elements 32 (without s (lowest s)))
+    rising = subst (λ (l : List ℕ). Rising l) apart (elements-rising 32 s)
+
+    no : bit s q ≡ 1 → ⊥
+    no o =
+        let m = is-element 32 s q (omega (arith, lowest-low s fits some)) o in
+        ⊎-elim (λ e. omega arith) (λ k. omega (arith, above-member (lowest s) (elements 32 (without s (lowest s))) (rising .0) q k))
+        (List·Memᴰ·cases-cons (subst (λ (l : List ℕ). List·Memᴰ q l) apart m))
+
+-- one less than a set turns the digits up to the least member: what both have is the rest
+and-pred : (k s : ℕ) → bit s k ≡ 1 → ((q : ℕ) → q < k → bit s q ≡ 0) → bitAnd s (s - 1) ≡ s - 2 ^ k
+and-pred zero s m z =
+    let o : s % 2 ≡ 1 = omega (arith, bit-zero s) in
+    let h : (s - 1) / 2 ≡ s / 2 = omega arith in
+    let d : (s - 1) % 2 ≡ 0 = omega arith in
+    and-step s (s - 1) ∙ rw (h, d, o, and-self (s / 2)) (omega arith)
+and-pred (suc k) s m z =
+    let e : s % 2 ≡ 0 = omega (arith, bit-zero s, z 0 (omega arith)) in
+    let n : 2 ^ suc k ≤ s = bit-le s (suc k) m in
+    let h : (s - 1) / 2 ≡ s / 2 - 1 = omega (arith, pow-suc 2 k, pow-pos k) in
+    let d : (s - 1) % 2 ≡ 1 = omega (arith, pow-suc 2 k, pow-pos k) in
+    let r = and-pred k (s / 2) (sym (bit-suc s k) ∙ m) (λ q l. sym (bit-suc s q) ∙ z (suc q) (omega arith)) in
+    and-step s (s - 1) ∙ rw (h, d, e, r, pow-suc 2 k) (omega arith)
+
+pub lowest-apart : (s : ℕ) → s < 2 ^ 32 → (s ≡ 0 → ⊥) → bitAnd s (s - 1) ≡ without s (lowest s)
+lowest-apart s fits some =
+    and-pred (lowest s) s (lowest-member s fits some) (λ q l. below-lowest s q fits some l)
+    ∙ sym (without-member s (lowest s) (lowest-member s fits some))
+
+-- a digit of the union by those of the two sets, where they are not both 1
+neither : (x y : ℕ) → max x y < 2 → (max x y ≡ 1 → ⊥) → (x ≡ 0) × (y ≡ 0)
+neither x y l h = (omega arith, omega arith)
+
+-- the points of both sides
+abbrev pub stones : Position → ℕ
+stones p = bitOr (p .mover) (p .opponent)
+
+module _ (points : ℕ) (p : Position) (w : OnBoard points p) where
+  pub vacant-value : (q : ℕ) → q < points → has (stones p) q ≡ false → getD (boardOf points p) q 0 ≡ 0
+  vacant-value q l h =
+      let e = bit-or (p .mover) (p .opponent) q in
+      let z = neither (bit (p .mover) q) (bit (p .opponent) q) (omega (arith, e, bit-lt (stones p) q)) (λ o. eqb-false (bit (stones p) q) 1 h (e ∙ o)) in
+      vacant-at points p w q l (z .0) (z .1)
+
+  pub stone-value : (q : ℕ) → q < points → has (stones p) q ≡ true → getD (boardOf points p) q 0 ≡ suc (digit (has (p .opponent) q))
+  unfolding valueAt
+  stone-value q l h = board-at points p q l ∙ ⊎-elim none some (bit-cases (p .opponent) q)
+    where
+      e : max (bit (p .mover) q) (bit (p .opponent) q) ≡ 1
+      e = sym (bit-or (p .mover) (p .opponent) q) ∙ eqb-true (bit (stones p) q) 1 h
+
+      none : bit (p .opponent) q ≡ 0 → valueAt p q ≡ suc (digit (has (p .opponent) q))
+      none z = let m : bit (p .mover) q ≡ 1 = omega (arith, e, z) in rw (m, z)
+
+      some : bit (p .opponent) q ≡ 1 → valueAt p q ≡ suc (digit (has (p .opponent) q))
+      some z = let m : bit (p .mover) q ≡ 0 = omega (arith, w .apart q l, z) in rw (m, z)

@@ -1,0 +1,14 @@
+-- `ranking::without_lowest` meets its contract. Assumes nothing.
+use Rattle.ranking.proofs.Digits.{lowest-apart}
+use borrow.Author.Needs.{needs}
+use Rattle.ranking.proofs.without_lowest.Statement.{statement}
+use Rattle.ranking.proofs.without_lowest.Tie as tie
+
+sub-result : tie.Need-sub-result
+sub-result c = search needs
+
+returns : tie.Need-returns
+returns c = lowest-apart (c .args .s) (c .fits .s .fits) (c .pre)
+
+pub without-lowest-spec : {M : Type 1} → statement M
+without-lowest-spec = tie.close (tie.spec sub-result returns)

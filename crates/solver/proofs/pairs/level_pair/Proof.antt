@@ -1,0 +1,71 @@
+-- `solver::pairs::level_pair` meets its contract. Assumes nothing.
+use mathlib.Core.Path.{sym, ap, subst, _∙_}
+use Prim.Native.Nat.{ℕ}
+use lib.ListN.{length}
+use Rattle.sweeping.specs.Levels.{Fits}
+use Rattle.sweeping.proofs.MarkedLevels.{levelled-length}
+use Rattle.solver.proofs.PairSteps.{level-once, level-twice}
+use borrow.Author.Needs.{needs}
+use Rattle.solver.proofs.pairs.level_pair.Statement.{statement}
+use Rattle.solver.proofs.pairs.level_pair.Tie as tie
+
+level-table-requires : tie.Need-level-table-requires
+level-table-requires c κs =
+    let s = c .before .before .before .before in
+    let p = s .pre .1 .1 .1 in
+    (s .pre .0, (s .pre .1 .0, (s .pre .1 .1 .0, (p .0, p .1 .0, p .1 .1, p .1 .2, p .4, p .5))))
+
+level-table-requires-2 : tie.Need-level-table-requires-2
+level-table-requires-2 c κs =
+    let s = c .before .before .before .before .before .before .before .before .before .before in
+    let a = s .args in
+    let p = s .pre .1 .1 .1 in
+    let e = ap length (c .before .before .before .before .before .level-table .ensures)
+    ∙ levelled-length (a .rings) (a .first) (a .second .own .start) (a .level) (p .5) (p .1 .1) (a .tablebase .now) (p .0) in (
+      s .pre .0,
+      (
+        s .pre .1 .0,
+        (
+          s .pre .1 .1 .0,
+          (
+            subst (λ (n : ℕ). Fits n (a .rings) (a .second) (a .first .own .start)) (sym e) (p .2),
+            p .3 .0,
+            p .3 .1,
+            p .3 .2,
+            p .4,
+            p .5,
+          ),
+        ),
+      ),
+    )
+
+same-length : tie.Need-same-length
+same-length c = search needs
+
+returns : tie.Need-returns
+returns c =
+    let k = c .before .before .before .before .before .before .before .before in
+    let a = k .before .before .before .before .before .args in
+    c .before .before .level-table2 .ensures
+    ∙ level-twice (a .rings) (a .first) (a .second) (a .tablebase .now) (k .level-table .last .0) (a .level) (k .level-table .ensures)
+    (c .before .before .before .before .if1 .taken)
+
+same-length-2 : tie.Need-same-length-2
+same-length-2 c = search needs
+
+returns-2 : tie.Need-returns-2
+returns-2 c =
+    let k = c .before .before .before .before in
+    let a = k .before .before .before .before .before .args in
+    level-once (a .rings) (a .first) (a .second) (a .tablebase .now) (k .level-table .last .0) (a .level) (k .level-table .ensures) (c .if1 .left)
+
+pub level-pair-spec : {M : Type 1} → statement M
+level-pair-spec =
+    tie.close
+    (tie.spec
+    level-table-requires
+    level-table-requires-2
+    same-length
+    returns
+    same-length-2
+    returns-2)

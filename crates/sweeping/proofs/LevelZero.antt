@@ -1,0 +1,72 @@
+-- Level 0 finds the blocked movers: it is a sweep of all positions at that level. Assumes nothing.
+use mathlib.Core.Path.{_≡_, refl, sym, ap, ap₂, _∙_}
+use mathlib.Core.Bool.{Bool, true, false, _&&_}
+use mathlib.Core.List.{List, [], _∷_, map}
+use Prim.Native.Nat.{ℕ, zero, suc, _+_, _*_}
+use native.Mathlib.Numerals.{add-one}
+use lib.Dec.{eqb}
+use lib.ListN.{length, set, length-set}
+use Rattle.lists.specs.Lists.{isEmpty}
+use Rattle.ranking.specs.Unrank.{unrank}
+use Rattle.rules.specs.Ply.{removable, listedMoves, afterPly}
+use Rattle.rules.proofs.Listed.{successors-are}
+use Rattle.game.proofs.Hits.{hit-zero}
+use Rattle.outcomes.specs.Whole.{next}
+use Rattle.sweeping.specs.declared.tables.Table.{Table}
+use Rattle.sweeping.specs.Levels.{isOpen, blockedPlace, blockedFirst, ranked, judged, sweptPlace, swept}
+
+empty-map : {A B : Type 0} (f : A → B) (l : List A) → isEmpty (map f l) ≡ isEmpty l
+empty-map f [] = refl
+empty-map f (x ∷ l) = refl
+
+-- a board without a move has no successor
+pub no-successor : (rings : ℕ) (b : List ℕ) → isEmpty (listedMoves rings b) ≡ isEmpty (next rings b)
+no-successor rings b = sym (ap isEmpty (successors-are (λ n c. removable n c) rings b) ∙ empty-map (λ n. afterPly b n) (listedMoves rings b))
+
+-- a place: closed, blocked, or free to move
+module _ (rings : ℕ) (t : Table) (r : ℕ) (now : List ℕ) where
+  pub place-closed : isOpen t now r ≡ false → now ≡ blockedPlace rings t now r
+  unfolding blockedPlace
+  place-closed e = rw (e, blockedPlace)
+
+  pub place-blocked : isOpen t now r ≡ true → isEmpty (next rings (unrank (8 * rings) (t .mover) (t .opponent) r)) ≡ true
+      → set now (t .own .start + r) 0 ≡ blockedPlace rings t now r
+  unfolding blockedPlace
+  place-blocked e h = rw (e, h, blockedPlace)
+
+  pub place-free : isOpen t now r ≡ true → isEmpty (next rings (unrank (8 * rings) (t .mover) (t .opponent) r)) ≡ false → now ≡ blockedPlace rings t now r
+  unfolding blockedPlace
+  place-free e h = rw (e, h, blockedPlace)
+
+  pub blocked-length : length (blockedPlace rings t now r) ≡ length now
+  unfolding blockedPlace
+  blocked-length = go (isOpen t now r && isEmpty (next rings (unrank (8 * rings) (t .mover) (t .opponent) r)))
+    where
+      go : (b : Bool) → length {A = ℕ} (elim b as (λ c. List ℕ) [ true ↦ set now (t .own .start + r) 0 | false ↦ now ]) ≡ length now
+      go true = length-set now (t .own .start + r) 0
+      go false = refl
+
+module _ (rings : ℕ) (t : Table) (now : List ℕ) where
+  pub blocked-none : now ≡ blockedFirst rings t now 0
+  unfolding blockedFirst
+  blocked-none = refl
+
+  pub blocked-more : (r : ℕ) (l : List ℕ) → l ≡ blockedFirst rings t now r → blockedPlace rings t l r ≡ blockedFirst rings t now (r + 1)
+  unfolding blockedFirst
+  blocked-more r l e = rw (e, add-one r)
+
+  pub blocked-lengths : (n : ℕ) → length (blockedFirst rings t now n) ≡ length now
+  unfolding blockedFirst
+  blocked-lengths zero = refl
+  blocked-lengths (suc n) = blocked-length rings t n (blockedFirst rings t now n) ∙ blocked-lengths n
+
+  place-swept : (same r : ℕ) (l : List ℕ) → blockedPlace rings t l r ≡ sweptPlace rings t same (λ i. true) 0 l r
+  unfolding blockedPlace sweptPlace
+  place-swept same r l = ap (λ (b : Bool). elim (isOpen t l r && b) as (λ c. List ℕ) [ true ↦ set l (t .own .start + r) 0 | false ↦ l ])
+      (sym (hit-zero (next rings) (judged rings t same l) (ranked rings t same r)))
+
+  pub blocked-swept : (same n : ℕ) → blockedFirst rings t now n ≡ swept rings t same (λ i. true) 0 now n
+  unfolding blockedFirst swept
+  blocked-swept same zero = refl
+  blocked-swept same (suc n) =
+      place-swept same n (blockedFirst rings t now n) ∙ ap (λ (l : List ℕ). sweptPlace rings t same (λ i. true) 0 l n) (blocked-swept same n)

@@ -1,0 +1,183 @@
+-- `sweeping::marks::mark_table` meets its contract. The invariant: the positions before those passed are marked, and the rank to come has the depth.
+-- Assumes nothing.
+use mathlib.Core.Path.{_≡_, refl, sym, ap, subst, _∙_}
+use mathlib.Core.Bool.{true}
+use Prim.Native.Nat.{ℕ, _≤_, _<_, _-_, _+_, _*_}
+use native.Mathlib.Omega.{arith}
+use lib.ListN.{length}
+use Rattle.board.specs.Board.{boardOf}
+use Rattle.sizes.specs.Size.{size}
+use Rattle.ranking.specs.Unrank.{unrank}
+use Rattle.plies.specs.Positions.{Placed}
+use Rattle.marking.proofs.Marks.{marked-length}
+use Rattle.sweeping.specs.Cursors.{Stands}
+use Rattle.sweeping.specs.Levels.{Lies}
+use Rattle.sweeping.specs.Marked.{Stored, isSource, markedFrom}
+use Rattle.sweeping.proofs.AtRank.{placed-at}
+use Rattle.sweeping.proofs.Sources.{room-before}
+use Rattle.sweeping.proofs.Sought.{marked-none, marked-place, marked-step, marked-over, stands-at}
+use Rattle.sweeping.proofs.marks.mark_table.Statement.{statement}
+use Rattle.sweeping.proofs.marks.mark_table.Tie as tie
+
+abbrev Inv-loop : tie.InvT-loop
+Inv-loop tablebase₀ binomials near mills rings source capture depth own n at₀ r₀ tablebase at r =
+    (n ≡ size (8 * rings) (source .mover) (source .opponent)) × (r ≤ n) × (length tablebase ≡ length tablebase₀)
+    × (tablebase ≡ markedFrom rings (own .start) source capture depth tablebase₀ r) × (r < n → isSource source depth tablebase r ≡ true)
+    × Stands rings (source .mover) (source .opponent) n at
+
+abbrev μ-loop : tie.MeasureT-loop
+μ-loop tablebase₀ binomials near mills rings source capture depth own n at₀ r₀ tablebase at r = n - r
+
+-- the entry of the function, seen from the loop
+abbrev entered : tie.At-loop Inv-loop μ-loop → tie.Start Inv-loop μ-loop
+entered x = x .before .before .before .before .before .before .before
+
+-- the position that is gone back from
+found : (c : tie.After-seek Inv-loop μ-loop)
+    → Placed (entered (c .before .before) .args .rings) (c .seek .result .position)
+    × (boardOf (8 * entered (c .before .before) .args .rings) (c .seek .result .position)
+    ≡ unrank (8 * entered (c .before .before) .args .rings) (entered (c .before .before) .args .source .mover)
+    (entered (c .before .before) .args .source .opponent) (c .before .before .loop .r))
+found c =
+    let x = c .before .before in
+    let s = entered x in
+    let a = s .args in
+    placed-at (a .rings) (s .pre .1 .1 .1 .0) (a .source .mover) (a .source .opponent) (x .loop .r) (omega (arith, c .before .loop-test .taken, x .loop .inv .0))
+    (c .seek .result .position) (c .seek .ensures .1)
+
+mul-size : tie.Need-mul-size Inv-loop μ-loop
+mul-size c = omega (arith, c .before .before .pre .1 .1 .1 .0)
+
+size-requires : tie.Need-size-requires Inv-loop μ-loop
+size-requires c κs = let s = c .before .before in let p = s .pre .1 .1 .1 in (s .pre .0, (omega (arith, p .0), p .3, p .4))
+
+nowhere-requires : tie.Need-nowhere-requires Inv-loop μ-loop
+nowhere-requires c κs = tt
+
+find-source-requires : tie.Need-find-source-requires Inv-loop μ-loop
+find-source-requires c κs =
+    let s = c .before .before .before .before .before in
+    let a = s .args in
+    (omega arith, subst (λ (n : ℕ). Stored (a .source) n (length (a .tablebase .now))) (sym (c .before .before .size .ensures)) (s .pre .1 .1 .1 .5))
+
+loop-holds : tie.Need-loop-holds Inv-loop μ-loop
+loop-holds c =
+    let s = c .before .before .before .before .before .before in
+    let a = s .args in (
+      c .before .before .before .size .ensures,
+      c .find-source .ensures .high,
+      refl,
+      marked-over (a .rings) (a .table .own .start) (a .source) (a .capture) (a .depth) (a .tablebase .now) 0 _ (c .find-source .result) (a .tablebase .now)
+          (c .find-source .ensures) (marked-none (a .rings) (a .table .own .start) (a .source) (a .capture) (a .depth) (a .tablebase .now)),
+      c .find-source .ensures .here,
+      λ h. absurd (omega (arith, c .before .before .nowhere .ensures)),
+    )
+
+seek-requires : tie.Need-seek-requires Inv-loop μ-loop
+seek-requires c κs =
+    let x = c .before in
+    let s = entered x in
+    (s .pre .0, ((s .pre .1 .1 .1 .0, omega (arith, c .loop-test .taken, x .loop .inv .0)), λ h. x .loop .inv .5 (omega (arith, c .loop-test .taken))))
+
+mark-before-requires : tie.Need-mark-before-requires Inv-loop μ-loop
+mark-before-requires c κs =
+    let x = c .before .before .before in
+    let s = entered x in
+    let a = s .args in
+    let p = s .pre .1 .1 .1 in
+    let w = found (c .before) in (
+      s .pre .0,
+      (
+        s .pre .1 .0,
+        (
+          s .pre .1 .1 .0,
+          (
+            w .0,
+            room-before (a .rings) (length (x .loop .tablebase)) (a .table) (a .source) (a .capture) (p .2)
+                (subst (λ (n : ℕ). Lies (8 * a .rings) (a .table) n) (sym (x .loop .inv .2)) (p .1)) (x .loop .r)
+                (omega (arith, c .before .before .loop-test .taken, x .loop .inv .0)) _ (w .1),
+          ),
+        ),
+      ),
+    )
+
+add-find-source : tie.Need-add-find-source Inv-loop μ-loop
+add-find-source c = omega (arith, c .before .before .before .before .before .before .loop-test .taken)
+
+-- the positions before this one are marked
+stepped : (c : tie.After-mark-before Inv-loop μ-loop)
+    → (length (c .mark-before .last .0) ≡ length (c .before .before .before .before .loop .tablebase))
+    × (c .mark-before .last .0 ≡ markedFrom (entered (c .before .before .before .before) .args .rings)
+    (entered (c .before .before .before .before) .args .table .own .start) (entered (c .before .before .before .before) .args .source)
+    (entered (c .before .before .before .before) .args .capture) (entered (c .before .before .before .before) .args .depth)
+    (entered (c .before .before .before .before) .args .tablebase .now) (c .before .before .before .before .loop .r + 1))
+stepped c =
+    let k = c .before .before in
+    let x = k .before .before in
+    let a = entered x .args in
+    let e = c .mark-before .ensures in (
+      ap length e ∙ marked-length _ (x .loop .tablebase),
+      e ∙ marked-place (a .rings) (a .table .own .start) (a .source) (a .capture) (a .depth) (a .tablebase .now) (x .loop .r) (x .loop .tablebase)
+          (x .loop .inv .4 (k .before .loop-test .taken)) _ (found k .1)
+          ∙ marked-step (a .rings) (a .table .own .start) (a .source) (a .capture) (a .depth) (a .tablebase .now) (x .loop .r) (x .loop .tablebase) (x .loop .inv .3),
+    )
+
+find-source-requires-2 : tie.Need-find-source-requires-2 Inv-loop μ-loop
+find-source-requires-2 c κs =
+    let d = c .before .before .before in
+    let x = d .before .before .before .before in
+    let s = entered x in
+    let a = s .args in (
+      omega (arith, d .before .before .before .loop-test .taken),
+      λ h. let f = s .pre .1 .1 .1 .5 h in omega (arith, f, x .loop .inv .0, x .loop .inv .2, stepped d .0),
+    )
+
+loop-less : tie.Need-loop-less Inv-loop μ-loop
+loop-less c =
+    let d = c .before .before .before .before in
+    omega (arith, d .before .before .before .loop-test .taken, c .find-source2 .ensures .low)
+
+loop-again : tie.Need-loop-again Inv-loop μ-loop
+loop-again c =
+    let d = c .before .before .before .before in
+    let k = d .before .before in
+    let x = k .before .before in
+    let a = entered x .args in (
+      x .loop .inv .0,
+      c .find-source2 .ensures .high,
+      stepped d .0 ∙ x .loop .inv .2,
+      marked-over (a .rings) (a .table .own .start) (a .source) (a .capture) (a .depth) (a .tablebase .now) (x .loop .r + 1) _ (c .find-source2 .result)
+          (d .mark-before .last .0) (c .find-source2 .ensures) (stepped d .1),
+      c .find-source2 .ensures .here,
+      stands-at (a .rings) (a .source .mover) (a .source .opponent) _ (x .loop .r) (k .seek .result) (k .seek .ensures .0) (k .seek .ensures .1),
+    )
+
+same-length : tie.Need-same-length Inv-loop μ-loop
+same-length c = c .before .loop .inv .2
+
+returns : tie.Need-returns Inv-loop μ-loop
+returns c =
+    let x = c .before in
+    let a = entered x .args in
+    let e : x .loop .r ≡ size (8 * a .rings) (a .source .mover) (a .source .opponent) = omega (arith, c .loop-test .left, x .loop .inv .0, x .loop .inv .1) in
+    x .loop .inv .3 ∙ ap (markedFrom (a .rings) (a .table .own .start) (a .source) (a .capture) (a .depth) (a .tablebase .now)) e
+
+pub mark-table-spec : {M : Type 1} → statement M
+mark-table-spec =
+    tie.close
+    (tie.spec
+    Inv-loop
+    μ-loop
+    mul-size
+    size-requires
+    nowhere-requires
+    find-source-requires
+    loop-holds
+    seek-requires
+    mark-before-requires
+    add-find-source
+    find-source-requires-2
+    loop-less
+    loop-again
+    same-length
+    returns)

@@ -1,0 +1,87 @@
+-- One level by marks, as a function of the tablebase: the open positions before those of the depth below are marked, then each marked position gets
+-- the level, or is open again. Assumes nothing.
+use mathlib.Core.Path.{_≡_}
+use mathlib.Core.Bool.{Bool, true, false}
+use mathlib.Core.List.{List}
+use Prim.Native.Nat.{ℕ, zero, suc, _+_, _-_, _*_, _≤_, _<_}
+use lib.Dec.{eqb, ltb}
+use lib.ListN.{getD, set}
+use Rattle.board.specs.Board.{digit}
+use Rattle.sizes.specs.Size.{size}
+use Rattle.ranking.specs.Unrank.{unrank}
+use Rattle.rules.specs.Predecessors.{predecessors}
+use Rattle.game.specs.Game.{drawEntry, voidEntry}
+use Rattle.game.specs.Judgement.{hit}
+use Rattle.outcomes.specs.Whole.{next}
+use Rattle.marking.specs.Marks.{marked, places}
+use Rattle.sweeping.specs.declared.tables.Table.{Table}
+use Rattle.sweeping.specs.declared.marks.Source.{Source}
+use Rattle.sweeping.specs.Levels.{ranked, judged}
+
+-- the tables that plies from t lead to: without a removal, and with one
+abbrev pub sameSource : Table → ℕ → Source
+sameSource t same = record { start = same; mover = t .opponent; opponent = t .mover }
+
+abbrev pub lowerSource : Table → Source
+lowerSource t = record { start = t .lower .start; mover = t .opponent - 1; opponent = t .mover }
+
+-- t is the table before s: its mover is the opponent there, and the other side has a stone more where one was removed
+pub record Before (t : Table) (s : Source) (capture : Bool) : Type 0 where
+  pub mover-is : s .opponent ≡ t .mover
+  pub opponent-is : s .mover + digit capture ≡ t .opponent
+
+-- the first n entries of s lie within a tablebase of a length; a table of movers with two stones has none
+abbrev pub Stored : Source → ℕ → ℕ → Type 0
+Stored s n length = 3 ≤ s .mover → s .start + n ≤ length
+
+-- the position of rank r has that depth; a mover with two stones has depth 0
+unfoldable pub isSource : Source → ℕ → List ℕ → ℕ → Bool
+isSource s depth tablebase r = elim (ltb (s .mover) 3) [ true ↦ eqb depth 0 | false ↦ eqb (getD tablebase (s .start + r) 0) depth ]
+
+-- r is the first number from `from` on and below `end` that passes a test, and `end` where there is none
+pub record FirstRank (passes : ℕ → Bool) (from end r : ℕ) : Type 0 where
+  pub low : from ≤ r
+  pub high : r ≤ end
+  pub none : (i : ℕ) → from ≤ i → i < r → passes i ≡ false
+  pub here : r < end → passes r ≡ true
+
+module _ (rings start : ℕ) (s : Source) (capture : Bool) (depth : ℕ) where
+  -- in the table that starts at a place, the positions before that of rank r are marked, if it has the depth
+  unfoldable pub markedPlace : List ℕ → ℕ → List ℕ
+  markedPlace tablebase r = elim (isSource s depth tablebase r) [
+    | true ↦ marked (places start (predecessors capture rings (unrank (8 * rings) (s .mover) (s .opponent) r))) tablebase
+    | false ↦ tablebase
+  ]
+
+  -- for the first n positions of s
+  unfoldable pub markedFrom : List ℕ → ℕ → List ℕ
+  markedFrom tablebase zero = tablebase
+  markedFrom tablebase (suc n) = markedPlace (markedFrom tablebase n) n
+
+-- a mark at rank r
+unfoldable pub isMarked : Table → List ℕ → ℕ → Bool
+isMarked t tablebase r = eqb (getD tablebase (t .own .start + r) 0) voidEntry
+
+module _ (rings : ℕ) (t : Table) (same level : ℕ) where
+  -- a marked position gets the level where it is hit, and is open again where it is not
+  unfoldable pub judgedPlace : List ℕ → ℕ → List ℕ
+  judgedPlace tablebase r = elim (isMarked t tablebase r) [
+    | true ↦ set tablebase (t .own .start + r)
+        (elim (hit (next rings) (judged rings t same tablebase) level (ranked rings t same r)) [ true ↦ level | false ↦ drawEntry ])
+    | false ↦ tablebase
+  ]
+
+  -- the first n positions
+  unfoldable pub judgedFirst : List ℕ → ℕ → List ℕ
+  judgedFirst tablebase zero = tablebase
+  judgedFirst tablebase (suc n) = judgedPlace (judgedFirst tablebase n) n
+
+  -- the marks of a level above 0
+  unfoldable pub levelMarks : List ℕ → List ℕ
+  levelMarks tablebase = markedFrom rings (t .own .start) (lowerSource t) true (level - 1)
+      (markedFrom rings (t .own .start) (sameSource t same) false (level - 1) tablebase (size (8 * rings) (t .opponent) (t .mover)))
+      (size (8 * rings) (t .opponent - 1) (t .mover))
+
+  -- the level
+  unfoldable pub levelled : List ℕ → List ℕ
+  levelled tablebase = judgedFirst (levelMarks tablebase) (size (8 * rings) (t .mover) (t .opponent))
