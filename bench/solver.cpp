@@ -1,250 +1,224 @@
 #include "solver.hpp"
 
 #include "board.hpp"
+#include "ranks.hpp"
+#include "scan.hpp"
+#include "walk.hpp"
 
 #include <algorithm>
-#include <vector>
 
 namespace plain {
 namespace {
 
-constexpr uint16_t DRAW = 65535;
+constexpr uint16_t OPEN = 65535; // no depth is known; a draw, once the pair is done
+constexpr uint16_t MARK = 65534; // open, and to be tested on this level
 
-// Marks a position that was looked at on this level and is not lost on it; open again when the level ends.
-constexpr uint16_t MARK = 65534;
-
-// Calls `use` with every union of `chosen` and `stones` members of `set`.
-template <class Use> void for_subsets(uint32_t set, int stones, uint32_t chosen, const Use &use) {
-    if (stones == 0) return use(chosen);
-    while (count(set) >= stones) {
-        int point = pop(set);
-        for_subsets(set, stones - 1, chosen | 1u << point, use);
-    }
-}
-
-// The ranks of the boards that one more stone of one side makes of a board: one sweep over its stones, then one look-up each.
-class Insertion {
-  public:
-    Insertion(const Board &board, Position at, bool opponents) : board_(board), at_(at), opponents_(opponents) {
-        uint64_t without = 0;
-        int m = 0, o = 0;
-        gain_[0] = 0;
-        for (uint32_t rest = at.mover | at.opponent; rest;) {
-            int p = pop(rest), value = at.opponent >> p & 1;
-            m += 1 - value;
-            o += value;
-            without += board.before(value, p, m, o);
-            all_with_ += board.before(value, p, m + !opponents, o + opponents);
-            gain_[m + o] = without - all_with_;
-        }
-    }
-
-    uint64_t rank(int point) const {
-        int m = count(at_.mover & below(point)), o = count(at_.opponent & below(point));
-        return all_with_ + gain_[m + o] + board_.before(opponents_, point, m + !opponents_, o + opponents_);
-    }
-
-  private:
-    const Board &board_;
-    Position at_;
-    bool opponents_;
-    uint64_t all_with_ = 0;         // what the stones count if the new one is below them all
-    uint64_t gain_[2 * STONES_MAX]; // by the stones below the new one: what they count more as it is not below them
-};
-
-// Pairs of tables in order; in a pair level by level: the positions of depth n + 1 are found from those of depth n by
-// un-moving, which is exact, so that wins need no further look; for a loss all successors are looked up.
+// Fills a pair of tables level by level. A position has depth n + 1 only if some successor has depth n. So the open positions
+// before those of depth n are marked, and each marked one is tested by its successors.
 class Filling {
   public:
-    Filling(const Board &board, int k, uint16_t *entries)
-        : board_(board), entries_(entries), blocks_(board.length(k) / BLOCK + 1) {
-        for (int m = STONES_MIN; m <= k; m++)
-            for (int o = STONES_MIN; o <= k; o++) start_[m][o] = board.start(m, o, k);
-        std::fill_n(entries, board.length(k), DRAW);
-    }
+    Filling(const Board &board, int k, uint16_t *entries) : board_(board), k_(k), entries_(entries) {}
 
     void pair(int mover, int opponent) {
-        seed(mover, opponent);
-        if (mover != opponent) seed(opponent, mover);
-        // Depths have gaps: the levels end above the greatest depth of all tables, these and the lower ones.
-        for (int level = 1; level <= deepest_ + 1; level++) {
-            fill_level(mover, opponent, level);
-            if (mover != opponent) fill_level(opponent, mover, level);
+        Side sides[2] = {side(mover, opponent), side(opponent, mover)};
+        int tables = mover == opponent ? 1 : 2;
+        bool reached[2] = {false, false}; // by table: whether the present level is a depth of it
+        for (int i = 0; i < tables; i++) reached[i] = fill_level_0(sides[i].table);
+        level_ = 0;
+        for (;;) {
+            int depth = reached[0] || reached[1] ? level_ : std::min(sides[0].lower_depth, sides[tables - 1].lower_depth);
+            if (depth >= MARK) return;
+            level_ = depth + 1;
+            bool sources[2] = {reached[tables - 1], reached[0]};
+            for (int i = 0; i < tables; i++) reached[i] = fill_level(sides[i], sources[i]);
         }
     }
 
   private:
-    static constexpr size_t BLOCK = 4096, BATCH = 256;
-
-    struct Candidate {
-        size_t place;
-        Position position;
+    struct Table {
+        int mover, opponent;
+        uint16_t *entries;
+        size_t size;
     };
 
-    static uint64_t block_bit(uint16_t entry) { return uint64_t{1} << (entry == MARK ? 63 : entry % 63); }
+    // A table of the pair, and those of its successors: without removal, and with it (not stored where two stones are left).
+    struct Side {
+        Table table, moved, lower;
+        int lower_depth; // the least depth that the lower table has from the present level on, else no depth
+    };
 
-    void write(size_t place, uint16_t entry) {
-        entries_[place] = entry;
-        blocks_[place / BLOCK] |= block_bit(entry);
+    Table table(int mover, int opponent) const {
+        if (!board_.has_table(mover, opponent, k_)) return {mover, opponent, nullptr, 0};
+        return {mover, opponent, entries_ + board_.start(mover, opponent, k_), board_.size(mover, opponent)};
     }
 
-    // Depth 0: every way out is taken. Depth 1 by taking a third stone: a point where a stone closes a mill is vacant.
-    void seed(int mover, int opponent) {
-        size_t start = start_[mover][opponent];
-        for_subsets(below(board_.points()), mover, 0, [&](uint32_t ours) {
-            uint32_t free = below(board_.points()) & ~ours, ways = 0, closing = 0;
-            for (uint32_t rest = ours; rest;) {
-                int from = pop(rest);
-                uint32_t reach = board_.reach(from, mover, free);
-                ways |= reach;
-                while (reach) {
-                    int to = pop(reach);
-                    closing |= board_.milled((ours & ~(1u << from)) | 1u << to) & 1u << to;
-                }
-            }
-            if (count(ways) <= opponent)
-                for_subsets(free & ~ways, opponent - count(ways), ways, [&](uint32_t theirs) {
-                    write(start + board_.rank({ours, theirs}), 0);
-                });
-            if (opponent == STONES_MIN && closing)
-                for_subsets(free, opponent, 0, [&](uint32_t theirs) {
-                    if (closing & ~theirs) write(start + board_.rank({ours, theirs}), 1);
-                });
+    Side side(int mover, int opponent) const {
+        Table lower = table(opponent - 1, mover);
+        int lower_depth = lower.entries ? least_from(lower.entries, lower.size, 0) : 0;
+        return {table(mover, opponent), table(opponent, mover), lower, lower_depth};
+    }
+
+    // Depth 0: the mover is blocked. Returns whether there is such a position.
+    bool fill_level_0(const Table &table) {
+        bool reached = false;
+        for_all(table.mover, table.opponent, [&](Position at, size_t rank) {
+            bool blocked = board_.blocked(at, table.mover);
+            table.entries[rank] = blocked ? 0 : OPEN;
+            reached |= blocked;
         });
-        deepest_ = std::max(deepest_, 1);
+        return reached;
     }
 
-    void fill_level(int mover, int opponent, int level) {
-        mover_ = mover, opponent_ = opponent, level_ = level;
-        for_entries(opponent, mover, level - 1, [&](Position at) { unmove(at); });
-        if (opponent > STONES_MIN) for_entries(opponent - 1, mover, level - 1, [&](Position at) { uncapture(at); });
-        judge_batch();
-        unmark();
+    // Returns whether some position of the table has the level as its depth. `sources`: whether the table of the successors
+    // without removal has the depth before. A table that does not have it is not scanned.
+    bool fill_level(Side &side, bool sources) {
+        side_ = side;
+        uint16_t depth = level_ - 1;
+        bool reached = false, lower_sources = side.lower_depth == depth;
+        if (sources) for_entries(side.moved, depth, [&](Position at, size_t) { unmove(at); });
+        if (lower_sources) side.lower_depth = uncapture_all(side.lower, depth);
+        if (sources || lower_sources)
+            for_entries(side.table, MARK, [&](Position at, size_t rank) {
+                bool found = level_ % 2 == 1 ? won(at) : lost(at);
+                side_.table.entries[rank] = found ? level_ : OPEN;
+                reached |= found;
+            });
+        return reached;
     }
 
-    // Calls `use` with every position of table (m, o) that has the given entry.
-    template <class Use> void for_entries(int m, int o, uint16_t entry, const Use &use) {
-        size_t start = start_[m][o], end = start + board_.size(m, o), known = 0;
-        Position at{0, 0};
-        for (size_t block = start / BLOCK; block * BLOCK < end; block++) {
-            if (!(blocks_[block] & block_bit(entry))) continue;
-            size_t place = std::max(start, block * BLOCK), block_end = std::min(end, (block + 1) * BLOCK);
-            while ((place = find(place, block_end, entry)) < block_end) {
-                if (at.mover == 0 || place - known > 10)
-                    at = board_.unrank(m, o, place - start);
-                else
-                    for (; known < place; known++) at = board_.next(at);
-                known = place++;
-                use(at);
+    // Marks what is before the positions of a depth in a lower table; returns the next depth there. A side with two stones has
+    // lost, at depth 0.
+    int uncapture_all(const Table &lower, int depth) {
+        if (lower.entries) {
+            for_entries(lower, depth, [&](Position at, size_t) { uncapture(at); });
+            return least_from(lower.entries, lower.size, depth + 1);
+        }
+        for_all(lower.mover, lower.opponent, [&](Position at, size_t) { uncapture(at); });
+        return OPEN;
+    }
+
+    // Calls `use` with every position of the given counts, and its rank.
+    template <class Use> void for_all(int mover, int opponent, const Use &use) {
+        Walk walk(board_, mover, opponent);
+        for (size_t rank = 0, size = board_.size(mover, opponent); rank < size; rank++) use(walk.to(rank), rank);
+    }
+
+    // The same for those that have the given entry in a table.
+    template <class Use> void for_entries(const Table &table, uint16_t entry, const Use &use) {
+        Walk walk(board_, table.mover, table.opponent);
+        for_equal(table.entries, table.size, entry, [&](size_t rank) { use(walk.to(rank), rank); });
+    }
+
+    bool flies() const { return side_.table.mover == STONES_MIN; }
+
+    void mark(uint64_t rank) {
+        uint16_t &entry = side_.table.entries[rank];
+        entry = entry == OPEN ? MARK : entry; // a write that is not needed is cheaper than a branch that is not foreseen
+    }
+
+    // Marks the positions with a ply to `at` that takes nothing.
+    void unmove(Position at) { come_from(at, at.opponent); }
+
+    // Marks the positions with a ply to `at` that takes a stone.
+    void uncapture(Position at) {
+        uint32_t milled = board_.milled(at.opponent), free = board_.vacant(at);
+        if (!milled) return;
+        if (flies())
+            while (free) come_from({at.mover | 1u << pop(free), at.opponent}, milled);
+        else
+            uncapture_slides(at, milled);
+    }
+
+    // There are fewer slides to take back than points for the stone that was taken: slides are the outer loop.
+    void uncapture_slides(Position at, uint32_t to_set) {
+        uint32_t free = board_.vacant(at);
+        while (to_set) {
+            int to = pop(to_set);
+            for (uint32_t from_set = free & board_.neighbours(to); from_set;) {
+                uint32_t from = 1u << pop(from_set);
+                InsertedRanks ranks({(at.opponent & ~(1u << to)) | from, at.mover});
+                for (uint32_t takes = free & ~from; takes;) mark(ranks.rank(pop(takes)));
             }
         }
     }
 
-    // The first place from `place` on with the given entry, or `end`.
-    size_t find(size_t place, size_t end, uint16_t entry) const {
-        constexpr size_t STRIDE = 32;
-        for (; place + STRIDE <= end; place += STRIDE) {
-            bool found = false;
-            for (size_t i = 0; i < STRIDE; i++) found |= entries_[place + i] == entry;
-            if (found) break;
-        }
-        while (place < end && entries_[place] != entry) place++;
-        return place;
-    }
-
-    // The positions with a ply to `at` that takes nothing.
-    void unmove(Position at) {
+    // Marks the positions before a stone of `to_set` came to where it stands.
+    void come_from(Position at, uint32_t to_set) {
         uint32_t free = board_.vacant(at);
-        for (uint32_t rest = at.opponent & ~board_.milled(at.opponent); rest;) come_from(at, pop(rest), free);
-    }
-
-    // The positions with a ply to `at` that takes a stone.
-    void uncapture(Position at) {
-        uint32_t free = board_.vacant(at), milled = board_.milled(at.opponent);
-        if (!milled) return;
-        for (uint32_t takes = free; takes;) {
-            uint32_t taken = 1u << pop(takes);
-            if (!(board_.removable(at.mover | taken) & taken)) continue;
-            for (uint32_t rest = milled; rest;) come_from({at.mover | taken, at.opponent}, pop(rest), free & ~taken);
-        }
-    }
-
-    // The stone at `to` moved last: candidates are the positions before.
-    void come_from(Position at, int to, uint32_t free) {
-        uint32_t others = at.opponent & ~(1u << to);
-        Insertion insertion(board_, {others, at.mover}, false);
-        size_t start = start_[mover_][opponent_];
-        for (uint32_t rest = board_.reach(to, mover_, free); rest;) {
-            int from = pop(rest);
-            size_t place = start + insertion.rank(from);
-            __builtin_prefetch(&entries_[place], 1);
-            batch_[batched_++] = {place, {others | 1u << from, at.mover}};
-            if (batched_ == BATCH) judge_batch();
-        }
-    }
-
-    void judge_batch() {
-        for (size_t i = 0; i < batched_; i++) {
-            const Candidate &candidate = batch_[i];
-            if (entries_[candidate.place] != DRAW) continue;
-            bool reached = level_ % 2 == 1 || lost(candidate.position);
-            write(candidate.place, reached ? level_ : MARK);
-            if (reached) deepest_ = std::max(deepest_, level_);
-        }
-        batched_ = 0;
-    }
-
-    bool won(size_t place) const { return entries_[place] % 2 == 1 && entries_[place] < level_; }
-
-    // Whether every ply leads to a position won on a lower level.
-    bool lost(Position at) const {
-        uint32_t free = board_.vacant(at);
-        for (uint32_t rest = at.mover; rest;) {
-            int from = pop(rest);
-            uint32_t others = at.mover & ~(1u << from), to_set = board_.reach(from, mover_, free);
-            if (!to_set) continue;
-            Insertion insertion(board_, {at.opponent, others}, true);
+        MovedRanks<0> ranks({at.opponent, at.mover});
+        if (flies()) {
+            FlownRanks<0> flown(ranks, free);
+            while (to_set) flown.any(pop(to_set), free, [&](uint64_t rank) { return mark(rank), false; });
+        } else
             while (to_set) {
                 int to = pop(to_set);
-                uint32_t moved = others | 1u << to;
-                if (board_.milled(moved) >> to & 1) {
-                    if (!captures_lost(at.opponent, moved)) return false;
-                } else if (!won(start_[opponent_][mover_] + insertion.rank(to)))
-                    return false;
+                for (uint32_t rest = free & board_.neighbours(to); rest;) mark(ranks.rank(to, pop(rest)));
+            }
+    }
+
+    bool won(Position at) const {
+        return any_successor(at, [depth = level_ - 1](uint16_t entry) { return entry == depth; });
+    }
+
+    bool lost(Position at) const {
+        return !any_successor(at, [depth = level_ - 1](uint16_t entry) { return entry % 2 == 0 || entry > depth; });
+    }
+
+    // Calls `settles` with the entries of the successors until it is true; returns whether it was.
+    template <class Settles> bool any_successor(Position at, const Settles &settles) const {
+        MovedRanks<1> ranks({at.opponent, at.mover});
+        return flies() ? any_flight(at, ranks, settles) : any_slide(at, ranks, settles);
+    }
+
+    template <class Settles> bool any_slide(Position at, const MovedRanks<1> &ranks, const Settles &settles) const {
+        uint32_t free = board_.vacant(at);
+        for (uint32_t from_set = at.mover; from_set;) {
+            int from = pop(from_set);
+            uint32_t others = at.mover & ~(1u << from);
+            for (uint32_t to_set = free & board_.neighbours(from); to_set;) {
+                int to = pop(to_set);
+                if (board_.closes(others, to) ? any_removal(at.opponent, others | 1u << to, settles)
+                                              : settles(side_.moved.entries[ranks.rank(from, to)]))
+                    return true;
             }
         }
-        return true;
+        return false;
     }
 
-    bool captures_lost(uint32_t theirs, uint32_t moved) const {
-        if (opponent_ == STONES_MIN) return false;
-        for (uint32_t rest = board_.removable(theirs); rest;) {
-            uint32_t left = theirs & ~(1u << pop(rest));
-            if (!won(start_[opponent_ - 1][mover_] + board_.rank({left, moved}))) return false;
+    template <class Settles> bool any_flight(Position at, const MovedRanks<1> &ranks, const Settles &settles) const {
+        uint32_t free = board_.vacant(at);
+        FlownRanks<1> flown(ranks, free);
+        for (uint32_t from_set = at.mover; from_set;) {
+            int from = pop(from_set);
+            uint32_t others = at.mover & ~(1u << from), closing = free & board_.closing(others);
+            if (flown.any(from, free & ~closing, [&](uint64_t rank) { return settles(side_.moved.entries[rank]); }))
+                return true;
+            while (closing)
+                if (any_removal(at.opponent, others | 1u << pop(closing), settles)) return true;
         }
-        return true;
+        return false;
     }
 
-    void unmark() {
-        size_t start = start_[mover_][opponent_], end = start + board_.size(mover_, opponent_);
-        for (size_t block = start / BLOCK; block * BLOCK < end; block++) {
-            if (!(blocks_[block] & block_bit(MARK))) continue;
-            std::replace(entries_ + std::max(start, block * BLOCK), entries_ + std::min(end, (block + 1) * BLOCK), MARK, DRAW);
-            blocks_[block] &= ~block_bit(MARK);
-        }
+    template <class Settles> bool any_removal(uint32_t theirs, uint32_t moved, const Settles &settles) const {
+        if (!side_.lower.entries) return settles(0);
+        for (uint32_t rest = board_.removable(theirs); rest;)
+            if (settles(side_.lower.entries[board_.rank({theirs & ~(1u << pop(rest)), moved})])) return true;
+        return false;
     }
 
     const Board &board_;
+    int k_;
     uint16_t *entries_;
-    std::vector<uint64_t> blocks_; // for each block of entries the bits of those that may occur in it
-    size_t start_[STONES_MAX + 1][STONES_MAX + 1];
-    int deepest_ = 0;
-    int mover_ = 0, opponent_ = 0, level_ = 0; // the table and the level that are filled
-    Candidate batch_[BATCH];                   // a batch's entries are fetched from memory while it is made
-    size_t batched_ = 0;
+    Side side_{}; // what is filled
+    int level_ = 0;
 };
 
 } // namespace
+
+void fill_pair(int rings, int mover, int opponent, int k, uint16_t *entries) {
+    Board board(rings);
+    Filling(board, k, entries).pair(mover, opponent);
+}
 
 void fill(int rings, int k, uint16_t *entries) {
     Board board(rings);

@@ -6,18 +6,18 @@ use mathlib.Core.Logic.{_⊎_, inl, inr}
 use Prim.Native.Nat.{ℕ, _+_, _*_, _≤_, _<_, min}
 use native.Mathlib.Omega.{arith}
 use lib.Dec.{eqb, ltb}
-use lib.ListN.{length}
+use lib.ListN.{length, getD}
 use borrow.Author.Tests.{eq-eqb, ne-eqb, ltb-true, ltb-false}
 use Rattle.sizes.specs.Size.{size}
 use Rattle.game.specs.Game.{voidEntry}
 use Rattle.parts.specs.Parts.{partOf, leastFrom}
 use Rattle.parts.specs.Finding.{First}
-use Rattle.parts.proofs.LeastDepth.{least-cases}
+use Rattle.parts.proofs.LeastDepth.{least-cases, part-below}
 use Rattle.sweeping.specs.declared.tables.Part.{Part}
 use Rattle.sweeping.specs.declared.tables.Table.{Table}
 use Rattle.sweeping.specs.Levels.{blockedFirst, openDecided, Found}
 use Rattle.sweeping.specs.Marked.{levelled}
-use Rattle.solver.specs.Pairs.{PairFound, Held, Beyond, pairBlocked, pairLevelled, pairLeast}
+use Rattle.solver.specs.Pairs.{PairFound, PartIn, InRoom, Holds, Held, PairHeld, Beyond, pairBlocked, pairLevelled, pairLeast}
 
 -- both tables, one after the other
 module _ (rings : ℕ) (a b : Table) (now once : List ℕ) where
@@ -61,6 +61,12 @@ pub second-held : (a b : Table) (limit level : ℕ) (now : List ℕ) → limit <
 second-held a b limit level now h f true s = (h, inr s)
 second-held a b limit level now h f false s = inr (f, s)
 
+-- three parts have none: the fourth decides
+pub last-held : (a b : Table) (e : ℕ) (now : List ℕ) → Held now (a .own) e false → Held now (b .own) e false → Held now (a .lower) e false
+    → (c : Bool) → Held now (b .lower) e c → PairHeld a b e now c
+last-held a b e now f g h true s = inr (inr s)
+last-held a b e now f g h false s = (f, g, h, s)
+
 module _ (a b : Table) (level : ℕ) (now : List ℕ) where
   pub least-of : (p q r s : ℕ) → p ≡ leastFrom level (partOf (a .own .start) (a .own .end) now) → q ≡ leastFrom level (partOf (b .own .start) (b .own .end) now)
       → r ≡ leastFrom level (partOf (a .lower .start) (a .lower .end) now) → s ≡ leastFrom level (partOf (b .lower .start) (b .lower .end) now)
@@ -77,14 +83,22 @@ module _ (a b : Table) (level : ℕ) (now : List ℕ) where
       go e f (inl q) = omega arith
       go e f (inr q) = omega (arith, q .1)
 
-  -- the least depth is the level where it is that of one part
-  module _ (h : level < voidEntry) where
-    least-low : (l : List ℕ) → level ≤ leastFrom level l
-    least-low l = go (leastFrom level l) (least-cases level l)
+  -- the least depth is the level where one of the parts holds that
+  module _ (h : level < voidEntry) (w : InRoom (length now) a b) where
+    at-least : (l : List ℕ) → level ≤ leastFrom level l
+    at-least l = go (leastFrom level l) (least-cases level l)
       where
         go : (e : ℕ) → (e ≡ voidEntry) ⊎ ((level ≤ e) × (e < voidEntry)) → level ≤ e
         go e (inl q) = omega arith
         go e (inr q) = q .0
+
+    at-most : (p : Part) → PartIn (length now) p → Holds now p level → leastFrom level (partOf (p .start) (p .end) now) ≤ level
+    at-most p r (j, l, u, e) = go (part-below level (p .start) (p .end) now (r .1) j l u (omega arith))
+      where
+        go : (leastFrom level (partOf (p .start) (p .end) now) ≤ getD now j 0) ⊎ (voidEntry ≤ getD now j 0)
+            → leastFrom level (partOf (p .start) (p .end) now) ≤ level
+        go (inl q) = omega arith
+        go (inr q) = absurd (omega arith)
 
     abbrev ones : ℕ
     ones = leastFrom level (partOf (a .own .start) (a .own .end) now)
@@ -98,12 +112,12 @@ module _ (a b : Table) (level : ℕ) (now : List ℕ) where
     abbrev fours : ℕ
     fours = leastFrom level (partOf (b .lower .start) (b .lower .end) now)
 
-    pub least-found : (ones ≡ level) ⊎ ((twos ≡ level) ⊎ (threes ≡ level)) → level ≡ pairLeast a b level now
+    pub least-held : PairHeld a b level now true → level ≡ pairLeast a b level now
     unfolding pairLeast
-    least-found f = go f (least-low _) (least-low _) (least-low _) (least-low _)
+    least-held f = go f (at-least _) (at-least _) (at-least _) (at-least _)
       where
-        go : (ones ≡ level) ⊎ ((twos ≡ level) ⊎ (threes ≡ level)) → level ≤ ones → level ≤ twos → level ≤ threes → level ≤ fours
-            → level ≡ min (min ones twos) (min threes fours)
-        go (inl e) p q r t = omega arith
-        go (inr (inl e)) p q r t = omega arith
-        go (inr (inr e)) p q r t = omega arith
+        go : PairHeld a b level now true → level ≤ ones → level ≤ twos → level ≤ threes → level ≤ fours → level ≡ min (min ones twos) (min threes fours)
+        go (inl (inl q)) p r t u = let v = at-most (a .own) (w .first) q in omega arith
+        go (inl (inr q)) p r t u = let v = at-most (b .own) (w .second) q in omega arith
+        go (inr (inl q)) p r t u = let v = at-most (a .lower) (w .first-lower) q in omega arith
+        go (inr (inr q)) p r t u = let v = at-most (b .lower) (w .second-lower) q in omega arith

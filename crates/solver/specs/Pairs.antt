@@ -35,6 +35,12 @@ abbrev pub Held : List ℕ → Part → ℕ → Bool → Type 0
 Held tablebase p e true = Holds tablebase p e
 Held tablebase p e false = Holds tablebase p e → ⊥
 
+-- and in one of the two tables or their lower tables
+abbrev pub PairHeld : Table → Table → ℕ → List ℕ → Bool → Type 0
+PairHeld a b e tablebase true = (Holds tablebase (a .own) e ⊎ Holds tablebase (b .own) e) ⊎ (Holds tablebase (a .lower) e ⊎ Holds tablebase (b .lower) e)
+PairHeld a b e tablebase false = (Holds tablebase (a .own) e → ⊥) × (Holds tablebase (b .own) e → ⊥) × (Holds tablebase (a .lower) e → ⊥)
+    × (Holds tablebase (b .lower) e → ⊥)
+
 -- the counts of a table, three to the opponent at least
 abbrev pub Counted : Table → Type 0
 Counted t = (t .mover ≤ 24) × (3 ≤ t .opponent) × (t .opponent ≤ 24)

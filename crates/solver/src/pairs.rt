@@ -10,7 +10,7 @@ ghost use Rattle.plies.specs.Masks.{NeighbourMasks, MillMasks};
 ghost use Rattle.game.specs.Game.{voidEntry};
 ghost use Rattle.outcomes.specs.Pair.{LowerValid};
 ghost use Rattle.sweeping.specs.Levels.{Lies, Fits};
-ghost use Rattle.solver.specs.Pairs.{PartIn, InRoom, Counted, Held, Beyond, pairBlocked, pairLevelled, pairFilled, pairLeast, PairFound};
+ghost use Rattle.solver.specs.Pairs.{PartIn, InRoom, Counted, Held, Beyond, PairHeld, pairBlocked, pairLevelled, pairFilled, pairLeast, PairFound};
 ghost use Rattle.solver.specs.Solve.{Setting, PairFill};
 use parts::DRAW;
 use parts::VOID;
@@ -149,27 +149,38 @@ fn least(a: u16, b: u16) -> u16
     b
 }
 
-// The least depth from `low` on in both tables and their lower tables, void where there is none. Most often `low` itself stands in one of them.
+// Whether an entry stands in one of the two tables or their lower tables.
+fn pair_holds(tablebase: &[u16], first: Table, second: Table, entry: u16) -> bool
+    requires { ⌜ InRoom (length (now tablebase)) first second ⌝ }
+    ensures { λ b. ⌜ PairHeld first second entry (now (tablebase .entry)) b ⌝ }
+{
+    if holds(tablebase, first.own, entry) {
+        return true;
+    }
+    if holds(tablebase, second.own, entry) {
+        return true;
+    }
+    if holds(tablebase, first.lower, entry) {
+        return true;
+    }
+    holds(tablebase, second.lower, entry)
+}
+
+// The least depth from `low` on in both tables and their lower tables, void where there is none. Most often it is `low`, which is found sooner.
 fn pair_least(tablebase: &[u16], first: Table, second: Table, low: u16) -> u16
     requires { ⌜ InRoom (length (now tablebase)) first second × (low < voidEntry) ⌝ }
     ensures { λ r. ⌜ r ≡ pairLeast first second low (now (tablebase .entry)) ⌝ }
 {
+    if pair_holds(tablebase, first, second, low) {
+        return low;
+    }
     let one = first.own;
     let two = second.own;
     let under_one = first.lower;
     let under_two = second.lower;
     let a = parts::least_depth(tablebase, one.start, one.end, low);
-    if a == low {
-        return low;
-    }
     let b = parts::least_depth(tablebase, two.start, two.end, low);
-    if b == low {
-        return low;
-    }
     let c = parts::least_depth(tablebase, under_one.start, under_one.end, low);
-    if c == low {
-        return low;
-    }
     let d = parts::least_depth(tablebase, under_two.start, under_two.end, low);
     least(least(a, b), least(c, d))
 }
