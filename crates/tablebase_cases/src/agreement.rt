@@ -74,11 +74,16 @@ fn one_ring(k: u8, length: usize) {
     compare(1, k, &mut entries[0..n], &mut others[0..n]);
 }
 
-fn two_rings(k: u8, length: usize) {
+fn two_rings_of_three() {
+    let mut entries = [7u16; 160160];
+    let mut others = [9u16; 160160];
+    compare(2, 3, &mut entries, &mut others);
+}
+
+fn two_rings_of_four() {
     let mut entries = [7u16; 1861860];
     let mut others = [9u16; 1861860];
-    let n = least(length, 1861860);
-    compare(2, k, &mut entries[0..n], &mut others[0..n]);
+    compare(2, 4, &mut entries, &mut others);
 }
 
 pub fn run() {
@@ -86,6 +91,6 @@ pub fn run() {
     one_ring(4, 1190);
     one_ring(5, 1302);
     one_ring(9, 1302);
-    two_rings(3, 160160);
-    two_rings(4, 1861860);
+    two_rings_of_three();
+    two_rings_of_four();
 }

@@ -1,10 +1,10 @@
--- `tablebase_cases::agreement::two_rings` is safe: the lengths by a law, since they are long to count. Assumes nothing.
+-- `tablebase_cases::agreement::two_rings_of_three` is safe: the lengths by a law, since they are long to count. Assumes nothing.
 use mathlib.Core.Path.{sym}
 use Prim.Native.Nat.{ℕ}
 use lib.ListN.{length-replicate}
 use borrow.Author.Needs.{needs}
-use Rattle.tablebase_cases.proofs.agreement.two_rings.Statement.{statement}
-use Rattle.tablebase_cases.proofs.agreement.two_rings.Tie as tie
+use Rattle.tablebase_cases.proofs.agreement.two_rings_of_three.Statement.{statement}
+use Rattle.tablebase_cases.proofs.agreement.two_rings_of_three.Tie as tie
 
 slice-aggregate-compare : tie.Need-slice-aggregate-compare
 slice-aggregate-compare c = sym (length-replicate {A = ℕ} 160160 7)
@@ -18,5 +18,5 @@ compare-requires c κs = search needs
 returns : tie.Need-returns
 returns c = search needs
 
-pub two-rings-spec : {M : Type 1} → statement M
-two-rings-spec = tie.close (tie.spec slice-aggregate-compare slice-aggregate-compare-2 compare-requires returns)
+pub two-rings-of-three-spec : {M : Type 1} → statement M
+two-rings-of-three-spec = tie.close (tie.spec slice-aggregate-compare slice-aggregate-compare-2 compare-requires returns)
