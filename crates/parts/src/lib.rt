@@ -2,7 +2,6 @@
 mod finding;
 
 pub use finding::find;
-
 ghost use mathlib.Core.Path.{_≡_};
 ghost use mathlib.Core.Bool.{true, false};
 ghost use Prim.Native.Nat.{_+_, _≤_, _<_};
@@ -41,8 +40,8 @@ fn write(part: &mut [u16], r: usize, v: u16)
 fn mark(part: &mut [u16], r: usize)
     requires { ⌜ r < length (now part) ⌝ }
     ensures { λ _. ⌜ now (part .exit) ≡ elim (eqb (getD (now (part .entry)) r 0) drawEntry) [
-        | true ↦ set (now (part .entry)) r voidEntry
-        | false ↦ now (part .entry)
+      | true ↦ set (now (part .entry)) r voidEntry
+      | false ↦ now (part .entry)
     ] ⌝ }
 {
     if part[r] == DRAW {
@@ -70,8 +69,8 @@ pub fn write_entry(tablebase: &mut [u16], start: usize, end: usize, r: usize, v:
 pub fn mark_entry(tablebase: &mut [u16], start: usize, end: usize, r: usize)
     requires { ⌜ (start + r < end) × (end ≤ length (now tablebase)) ⌝ }
     ensures { λ _. ⌜ now (tablebase .exit) ≡ elim (eqb (getD (now (tablebase .entry)) (start + r) 0) drawEntry) [
-        | true ↦ set (now (tablebase .entry)) (start + r) voidEntry
-        | false ↦ now (tablebase .entry)
+      | true ↦ set (now (tablebase .entry)) (start + r) voidEntry
+      | false ↦ now (tablebase .entry)
     ] ⌝ }
 {
     mark(&mut tablebase[start..end], r);

@@ -176,12 +176,14 @@ module _ (rings k m o : ℕ) (a b : Table) (before : List ℕ) (s : Setting (len
 
   pub state-next : (then : ℕ) → then ≡ suc (pairLeast a b level after) → (level < then) × State rings k m o a b before s valid limit then after
   state-next then e =
-      let r = least-range rings k m o a b after here level low in
-      (omega (arith, r .0), subst (λ (v : ℕ). State rings k m o a b before s valid limit v after) (sym e) record {
-        kept = kept;
-        exact = skip (next rings) (λ c. pairSeed rings k m o before c) (OnPair rings m o) (pair-ground rings k m o (s .pair) before valid) level low
-            (λ c. successorEntry rings k after c) exact (pairLeast a b level after) (r .0) (λ c i l u. nothing c i l u (omega (arith, r .1)));
-        most = most;
-        over = λ v. stop (next rings) (λ c. pairSeed rings k m o before c) (OnPair rings m o) (pair-ground rings k m o (s .pair) before valid) level low
-            (λ c. successorEntry rings k after c) exact (λ c i l u. nothing c i l (omega arith) u);
-      })
+      let r = least-range rings k m o a b after here level low in (
+        omega (arith, r .0),
+        subst (λ (v : ℕ). State rings k m o a b before s valid limit v after) (sym e) record {
+          kept = kept;
+          exact = skip (next rings) (λ c. pairSeed rings k m o before c) (OnPair rings m o) (pair-ground rings k m o (s .pair) before valid) level low
+              (λ c. successorEntry rings k after c) exact (pairLeast a b level after) (r .0) (λ c i l u. nothing c i l u (omega (arith, r .1)));
+          most = most;
+          over = λ v. stop (next rings) (λ c. pairSeed rings k m o before c) (OnPair rings m o) (pair-ground rings k m o (s .pair) before valid) level low
+              (λ c. successorEntry rings k after c) exact (λ c i l u. nothing c i l (omega arith) u);
+        },
+      )

@@ -38,7 +38,7 @@ use Rattle.sweeping.proofs.Probed.{lower-starts}
 use Rattle.sweeping.proofs.Visits.{Side, board-in, swept-kept, swept-table}
 use Rattle.sweeping.proofs.Judged.{Marks, judged-swept}
 use Rattle.sweeping.proofs.Sought.{judged-lengths}
-use Rattle.sweeping.proofs.Sources.{MarkedIn, Marking, marking-then, closed-still, same-before, lower-before, from-marked, source-same, from-closed}
+use Rattle.sweeping.proofs.Sources.{MarkedIn, MarkedPart, part-then, closed-still, same-before, lower-before, from-marked, source-same, from-closed}
 
 module _ (rings : ℕ) (t : Table) (same level : ℕ) (low : level < voidEntry) (three : 3 ≤ t .opponent) (clean : List ℕ)
     (fits : Fits (length clean) rings t same) where
@@ -48,15 +48,15 @@ module _ (rings : ℕ) (t : Table) (same level : ℕ) (low : level < voidEntry) 
   abbrev once : List ℕ
   once = markedFrom rings (t .own .start) (sameSource t same) false (level - 1) clean (size (8 * rings) (t .opponent) (t .mover))
 
-  once-marked : Marking (t .own .start) own clean once
+  once-marked : MarkedPart (t .own .start) own clean once
   once-marked = from-marked rings t (sameSource t same) false (same-before t same) (level - 1) (omega arith) clean (size (8 * rings) (t .opponent) (t .mover)) (omega arith)
 
-  rest-marked : Marking (t .own .start) own once (levelMarks rings t same level clean)
+  rest-marked : MarkedPart (t .own .start) own once (levelMarks rings t same level clean)
   unfolding levelMarks
   rest-marked = from-marked rings t (lowerSource t) true (lower-before t three) (level - 1) (omega arith) once (size (8 * rings) (t .opponent - 1) (t .mover)) (omega arith)
 
-  all-marked : Marking (t .own .start) own clean (levelMarks rings t same level clean)
-  all-marked = marking-then once-marked rest-marked
+  all-marked : MarkedPart (t .own .start) own clean (levelMarks rings t same level clean)
+  all-marked = part-then once-marked rest-marked
 
   pub levelled-length : length (levelled rings t same level clean) ≡ length clean
   unfolding levelled

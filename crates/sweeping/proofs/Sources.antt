@@ -32,15 +32,15 @@ abbrev pub MarkedIn : ℕ → ℕ → List ℕ → List ℕ → ℕ → Type 0
 MarkedIn start n old new j =
     (getD new j 0 ≡ getD old j 0) ⊎ ((getD old j 0 ≡ drawEntry) × (getD new j 0 ≡ voidEntry) × ((r : ℕ) × (r < n) × (start + r ≡ j)))
 
-pub record Marking (start n : ℕ) (old new : List ℕ) : Type 0 where
+pub record MarkedPart (start n : ℕ) (old new : List ℕ) : Type 0 where
   pub same-length : length new ≡ length old
   pub at : (j : ℕ) → MarkedIn start n old new j
 
-pub marking-none : (start n : ℕ) (l : List ℕ) → Marking start n l l
-marking-none start n l = record { same-length = refl; at = λ j. inl refl }
+pub part-none : (start n : ℕ) (l : List ℕ) → MarkedPart start n l l
+part-none start n l = record { same-length = refl; at = λ j. inl refl }
 
-pub marking-then : {start n : ℕ} {a b c : List ℕ} → Marking start n a b → Marking start n b c → Marking start n a c
-marking-then {start} {n} {a} {b} {c} v w = record { same-length = w .same-length ∙ v .same-length; at = λ j. go j (v .at j) (w .at j) }
+pub part-then : {start n : ℕ} {a b c : List ℕ} → MarkedPart start n a b → MarkedPart start n b c → MarkedPart start n a c
+part-then {start} {n} {a} {b} {c} v w = record { same-length = w .same-length ∙ v .same-length; at = λ j. go j (v .at j) (w .at j) }
   where
     go : (j : ℕ) → MarkedIn start n a b j → MarkedIn start n b c j → MarkedIn start n a c j
     go j (inl e) (inl f) = inl (f ∙ e)
@@ -49,7 +49,7 @@ marking-then {start} {n} {a} {b} {c} v w = record { same-length = w .same-length
     go j (inr e) (inr f) = absurd (omega (arith, e .1, f .0))
 
 -- what is closed stays closed
-pub closed-still : {start n : ℕ} {a b : List ℕ} → Marking start n a b → (j : ℕ) → (getD a j 0 ≡ drawEntry → ⊥) → getD b j 0 ≡ drawEntry → ⊥
+pub closed-still : {start n : ℕ} {a b : List ℕ} → MarkedPart start n a b → (j : ℕ) → (getD a j 0 ≡ drawEntry → ⊥) → getD b j 0 ≡ drawEntry → ⊥
 closed-still {start} {n} {a} {b} w j c d = go (w .at j)
   where
     go : MarkedIn start n a b j → ⊥
@@ -97,7 +97,7 @@ module _ (rings : ℕ) (t : Table) (s : Source) (capture : Bool) (leads : Before
       }
 
   boards-marked : (r : ℕ) → r < theirs → (tablebase : List ℕ)
-      → Marking (t .own .start) own tablebase (marked (places (t .own .start) (predecessors capture rings (board r))) tablebase)
+      → MarkedPart (t .own .start) own tablebase (marked (places (t .own .start) (predecessors capture rings (board r))) tablebase)
   boards-marked r h tablebase = record {
     same-length = marked-length js tablebase;
     at = λ j. go j (marked-at js tablebase j);
@@ -115,23 +115,23 @@ module _ (rings : ℕ) (t : Table) (s : Source) (capture : Bool) (leads : Before
           let b = map-member (λ c. t .own .start + rank c) (predecessors capture rings (board r)) (e .2) in
           inr (e .0, e .1, (rank (b .0), rank-in rings (t .mover) (t .opponent) (b .0) (before-in r h (b .0) (b .1)), sym (b .2)))
 
-  place-marked : (r : ℕ) → r < theirs → (tablebase : List ℕ) → Marking (t .own .start) own tablebase (markedPlace rings (t .own .start) s capture depth tablebase r)
+  place-marked : (r : ℕ) → r < theirs → (tablebase : List ℕ) → MarkedPart (t .own .start) own tablebase (markedPlace rings (t .own .start) s capture depth tablebase r)
   unfolding markedPlace
   place-marked r h tablebase = go (isSource s depth tablebase r) refl
     where
       go : (b : Bool) → isSource s depth tablebase r ≡ b
-          → Marking (t .own .start) own tablebase (markedPlace rings (t .own .start) s capture depth tablebase r)
+          → MarkedPart (t .own .start) own tablebase (markedPlace rings (t .own .start) s capture depth tablebase r)
       go true e = rw (e, markedPlace) (boards-marked r h tablebase)
-      go false e = rw (e, markedPlace) (marking-none (t .own .start) own tablebase)
+      go false e = rw (e, markedPlace) (part-none (t .own .start) own tablebase)
 
-  pub from-marked : (tablebase : List ℕ) (n : ℕ) → n ≤ theirs → Marking (t .own .start) own tablebase (markedFrom rings (t .own .start) s capture depth tablebase n)
+  pub from-marked : (tablebase : List ℕ) (n : ℕ) → n ≤ theirs → MarkedPart (t .own .start) own tablebase (markedFrom rings (t .own .start) s capture depth tablebase n)
   unfolding markedFrom
-  from-marked tablebase zero h = marking-none (t .own .start) own tablebase
+  from-marked tablebase zero h = part-none (t .own .start) own tablebase
   from-marked tablebase (suc n) h =
-      marking-then (from-marked tablebase n (omega arith)) (place-marked n h (markedFrom rings (t .own .start) s capture depth tablebase n))
+      part-then (from-marked tablebase n (omega arith)) (place-marked n h (markedFrom rings (t .own .start) s capture depth tablebase n))
 
   -- marks do not change which positions have the depth
-  pub source-same : (start n : ℕ) (a b : List ℕ) → Marking start n a b → (r : ℕ)
+  pub source-same : (start n : ℕ) (a b : List ℕ) → MarkedPart start n a b → (r : ℕ)
       → isSource s depth b r ≡ isSource s depth a r
   unfolding isSource
   source-same start n a b w r = ap (λ (x : Bool). elim (ltb (s .mover) 3) as (λ c. Bool) [ true ↦ eqb depth 0 | false ↦ x ]) (go (w .at (s .start + r)))
@@ -156,7 +156,7 @@ module _ (rings : ℕ) (t : Table) (s : Source) (capture : Bool) (leads : Before
   from-closed tablebase zero h r l e b m f d = omega arith
   from-closed tablebase (suc n) h r l e b m f d = go (ℕ-discrete r n) (λ k. from-closed tablebase n (omega arith) r k e b m f)
     where
-      w : Marking (t .own .start) own tablebase (markedFrom rings (t .own .start) s capture depth tablebase n)
+      w : MarkedPart (t .own .start) own tablebase (markedFrom rings (t .own .start) s capture depth tablebase n)
       w = from-marked tablebase n (omega arith)
 
       go : Dec (r ≡ n) → (r < n → getD (markedFrom rings (t .own .start) s capture depth tablebase n) (t .own .start + rank b) 0 ≡ drawEntry → ⊥) → ⊥

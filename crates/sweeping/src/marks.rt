@@ -100,8 +100,8 @@ fn judged_entry(
     requires { ⌜ Fits (length (now tablebase)) rings table same × (r < size (8 * rings) (table .mover) (table .opponent)) × (level < voidEntry) ⌝ }
     requires { ⌜ position ≡ positionOf (unrank (8 * rings) (table .mover) (table .opponent) r) ⌝ }
     ensures { λ e. ⌜ e ≡ elim (hit (next rings) (judged rings table same (now (tablebase .entry))) level (ranked rings table same r)) [
-        | true ↦ level
-        | false ↦ drawEntry
+      | true ↦ level
+      | false ↦ drawEntry
     ] ⌝ }
 {
     let lower = table.lower;

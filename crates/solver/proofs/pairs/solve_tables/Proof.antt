@@ -98,9 +98,11 @@ sweep-pair-requires c κs =
 loop-holds : tie.Need-loop-holds Inv-loop μ-loop
 loop-holds c =
     let a = c .before .before .before .before .before .before .before .before .before .args in
-    λ before s valid e.
-    (omega arith, after-blocked (a .rings) (a .k) (a .first .mover) (a .first .opponent) (a .first) (a .second) before s valid (a .limit) _
-    (state-start (a .rings) (a .k) (a .first .mover) (a .first .opponent) (a .first) (a .second) before s valid (a .limit)) _ e)
+    λ before s valid e. (
+      omega arith,
+      after-blocked (a .rings) (a .k) (a .first .mover) (a .first .opponent) (a .first) (a .second) before s valid (a .limit) _
+          (state-start (a .rings) (a .k) (a .first .mover) (a .first .opponent) (a .first) (a .second) before s valid (a .limit)) _ e,
+    )
 
 level-pair-requires : tie.Need-level-pair-requires Inv-loop μ-loop
 level-pair-requires c κs =
