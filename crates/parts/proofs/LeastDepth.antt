@@ -3,12 +3,12 @@ use mathlib.Core.Path.{_≡_, refl, ap, subst, _∙_}
 use mathlib.Core.Bool.{Bool, true, false, _&&_}
 use mathlib.Core.List.{List, [], _∷_}
 use mathlib.Core.Logic.{_⊎_, inl, inr}
-use Prim.Native.Nat.{ℕ, zero, suc, _+_, _-_, _≤_, _<_}
+use Prim.Native.Nat.{ℕ, zero, suc, _+_, _-_, _%_, _≤_, _<_}
 use native.Mathlib.Omega.{arith}
 use lib.Dec.{leb, ltb}
 use lib.ListN.{length, getD, drop, length-drop}
 use lib.Seq.{getD-take, getD-drop, length-take-le}
-use borrow.Author.Tests.{leb-true, leb-false, ltb-true, ltb-false}
+use borrow.Author.Tests.{leb-true, leb-false, le-leb, lt-leb, ltb-true, ltb-false, lt-ltb, le-ltb}
 use Rattle.game.specs.Game.{voidEntry}
 use Rattle.parts.specs.Parts.{partOf, lower, leastFrom}
 
@@ -26,6 +26,24 @@ lowered least e low = go (leb low e) refl (ltb e least) refl
     go true f false g = rw (f, g) (kept (λ h. ltb-false e least g))
     go false f b g = rw f (kept (λ h. absurd (omega (arith, leb-false low e f))))
 
+-- the same by the difference from `low`, which wraps round below it
+module _ (low above e d : ℕ) (small : low + above ≤ voidEntry) (fits : d < 65536) (wraps : (d + low) % 65536 ≡ e) where
+  pub nearer-taken : d < above → low + d ≡ lower (low + above) e low
+  unfolding lower
+  nearer-taken h = rw (le-leb low e (omega arith), lt-ltb e (low + above) (omega arith), lower) (omega arith)
+
+  pub nearer-kept : above ≤ d → low + above ≡ lower (low + above) e low
+  unfolding lower
+  nearer-kept h = go (ltb (d + low) 65536) refl
+    where
+      go : (b : Bool) → ltb (d + low) 65536 ≡ b → low + above ≡ lower (low + above) e low
+      go true f =
+          let l = ltb-true (d + low) 65536 f in
+          rw (le-leb low e (omega arith), le-ltb e (low + above) (omega arith), lower)
+      go false f =
+          let l = ltb-false (d + low) 65536 f in
+          rw (lt-leb low e (omega arith), lower)
+
 -- the least is void, or from `low` on and below void
 pub least-cases : (low : ℕ) (l : List ℕ) → (leastFrom low l ≡ voidEntry) ⊎ ((low ≤ leastFrom low l) × (leastFrom low l < voidEntry))
 unfolding leastFrom
@@ -37,6 +55,21 @@ least-cases low (e ∷ es) = go (lower (leastFrom low es) e low) (lowered (least
     go v (taken a b) (inl q) = inr (a, omega arith)
     go v (taken a b) (inr q) = inr (a, omega (arith, q .1))
     go v (kept a) r = r
+
+pub least-most : (low : ℕ) (l : List ℕ) → leastFrom low l ≤ voidEntry
+least-most low l = go (leastFrom low l) (least-cases low l)
+  where
+    go : (v : ℕ) → (v ≡ voidEntry) ⊎ ((low ≤ v) × (v < voidEntry)) → v ≤ voidEntry
+    go v (inl q) = omega arith
+    go v (inr q) = omega (arith, q .1)
+
+pub least-none : (low : ℕ) → leastFrom low [] ≡ voidEntry
+unfolding leastFrom
+least-none low = refl
+
+pub least-more : (low e : ℕ) (es : List ℕ) → leastFrom low (e ∷ es) ≡ lower (leastFrom low es) e low
+unfolding leastFrom
+least-more low e es = refl
 
 -- no entry of the list from `low` on lies below it
 least-below : (low : ℕ) (l : List ℕ) (j : ℕ) → j < length l → low ≤ getD l j 0 → leastFrom low l ≤ getD l j 0 ⊎ (voidEntry ≤ getD l j 0)

@@ -76,27 +76,31 @@ pub fn mark_entry(tablebase: &mut [u16], start: usize, end: usize, r: usize)
     mark(&mut tablebase[start..end], r);
 }
 
-// The lower of two entries, if the second is not below `low`.
-fn lower(least: u16, e: u16, low: u16) -> u16
-    ensures { λ r. ⌜ r ≡ lower least e low ⌝ }
+// How far an entry lies above `low`, if that is less than `above`. Entries below `low` wrap round and lie far above.
+fn nearer(above: u16, e: u16, low: u16) -> u16
+    requires { ⌜ low + above ≤ voidEntry ⌝ }
+    ensures { λ r. ⌜ low + r ≡ lower (low + above) e low ⌝ }
 {
-    if (low <= e) & (e < least) {
-        return e;
+    let d = std::num::wrapping_sub_u16(e, low);
+    if d < above {
+        return d;
     }
-    least
+    above
 }
 
-// The least depth from `low` on among the entries of a part, void where there is none.
+// The least depth from `low` on among the entries of a part, void where there is none. The loop is a minimum of differences, which the machine takes
+// for several entries at once.
 fn least_from(part: &[u16], low: u16) -> u16
+    requires { ⌜ low ≤ voidEntry ⌝ }
     ensures { λ r. ⌜ r ≡ leastFrom low (now (part .entry)) ⌝ }
 {
-    let mut least = VOID;
+    let mut above = VOID - low;
     let mut i = part.len();
     while 0 < i {
         i -= 1;
-        least = lower(least, part[i], low);
+        above = nearer(above, part[i], low);
     }
-    least
+    low + above
 }
 
 // Whether an entry of a part is void.
@@ -114,7 +118,7 @@ fn has_void(part: &[u16]) -> bool
 
 // The least depth from `low` on in a table.
 pub fn least_depth(tablebase: &[u16], start: usize, end: usize, low: u16) -> u16
-    requires { ⌜ (start ≤ end) × (end ≤ length (now tablebase)) ⌝ }
+    requires { ⌜ (start ≤ end) × (end ≤ length (now tablebase)) × (low ≤ voidEntry) ⌝ }
     ensures { λ r. ⌜ r ≡ leastFrom low (partOf start end (now (tablebase .entry))) ⌝ }
 {
     least_from(&tablebase[start..end], low)
