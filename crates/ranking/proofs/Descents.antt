@@ -27,7 +27,7 @@ use Rattle.ranking.proofs.Extremes.{Rises, rises-top, taken-more}
 digit-bit : (s q : ℕ) → digit (has s q) ≡ bit s q
 digit-bit s q = ⊎-elim (λ z. rw z) (λ o. rw o) (bit-cases s q)
 
-value-bits : (points : ℕ) (position : Position) (q : ℕ) → q < points
+pub value-bits : (points : ℕ) (position : Position) (q : ℕ) → q < points
     → getD (boardOf points position) q 0 ≡ bit (position .mover) q + 2 * bit (position .opponent) q
 unfolding valueAt
 value-bits points position q l =
@@ -35,6 +35,12 @@ value-bits points position q l =
 
 max-sum : (m o : ℕ) → m + o ≤ 1 → max m o ≡ m + o
 max-sum m o h = omega arith
+
+-- a stone is of one side
+pub stones-at : (points : ℕ) (position : Position) → OnBoard points position → (q : ℕ) → q < points
+    → bit (stones position) q ≡ bit (position .mover) q + bit (position .opponent) q
+stones-at points position w q l =
+    bit-or (position .mover) (position .opponent) q ∙ max-sum (bit (position .mover) q) (bit (position .opponent) q) (w .apart q l)
 
 -- of two neighbours the digits of m and o, and m′ and o′, say whether the values drop
 drop-digit : (m o m′ o′ : ℕ) → m + o ≤ 1 → m′ + o′ ≤ 1
@@ -59,12 +65,13 @@ le-digit x y e = go (ltb x y) refl
     go true t = absurd (omega (arith, e, ap digit t))
     go false t = ltb-false x y t
 
--- p is where the next board differs first: the points below it rise, and a higher value stands among them
+-- p is where the next board differs first: the points below it rise, and a higher value stands among them, at the point before it
 pub record Descent (points : ℕ) (position : Position) (p : ℕ) : Type 0 where
   pub low : p < points
   pub rises : Rises (boardOf points position) p
   pub value : getD (boardOf points position) p 0 ≡ digit (has (position .mover) p)
   pub some : 0 < count 2 (take p (boardOf points position)) + (1 - digit (has (position .mover) p)) * digit (ltb 0 (count 1 (take p (boardOf points position))))
+  pub stone : bit (stones position) (p - 1) ≡ 1
 
 -- the point before holds a value that is higher than x
 some-higher : (b : List ℕ) (q x z : ℕ) → q < length b → getD b q 0 ≡ z → x < z → z ≤ 2
@@ -82,15 +89,11 @@ module _ (points : ℕ) (position : Position) (w : OnBoard points position) (r t
   abbrev drops : ℕ
   drops = bitOr r t
 
-  stones-at : (q : ℕ) → q < points → bit (stones position) q ≡ bit (position .mover) q + bit (position .opponent) q
-  stones-at q l =
-      bit-or (position .mover) (position .opponent) q ∙ max-sum (bit (position .mover) q) (bit (position .opponent) q) (w .apart q l)
-
   drops-at : (q : ℕ) → suc q < points → bit drops (suc q) ≡ digit (ltb (getD (boardOf points position) (suc q) 0) (getD (boardOf points position) q 0))
   drops-at q l =
       let k : q < points = omega arith in
       bit-or r t (suc q)
-      ∙ ap₂ max (e .after q) (f .after q ∙ ap₂ (λ (x y : ℕ). x - min x y) (stones-at q k) (stones-at (suc q) l))
+      ∙ ap₂ max (e .after q) (f .after q ∙ ap₂ (λ (x y : ℕ). x - min x y) (stones-at points position w q k) (stones-at points position w (suc q) l))
       ∙ drop-digit (bit (position .mover) q) (bit (position .opponent) q) (bit (position .mover) (suc q)) (bit (position .opponent) (suc q))
       (w .apart q k) (w .apart (suc q) l)
       ∙ ap₂ (λ (x y : ℕ). digit (ltb x y)) (sym (value-bits points position (suc q) l)) (sym (value-bits points position q k))
@@ -130,9 +133,13 @@ module _ (points : ℕ) (position : Position) (w : OnBoard points position) (r t
         let d = lt-digit (getD b (suc q) 0) (getD b q 0) (sym (drops-at q l) ∙ ap (λ (k : ℕ). bit drops k) z ∙ lowest-member drops drops-fit drops-any) in
         let v : getD b (suc q) 0 ≡ digit (has (position .mover) (suc q)) =
         omega (arith, value-bits points position (suc q) l, digit-bit (position .mover) (suc q), value-le b vs q) in
+        let k : suc q - 1 ≡ q = omega arith in
+        let o : bit (stones position) q ≡ 1 =
+        omega (arith, value-bits points position q (omega arith), stones-at points position w q (omega arith), w .apart q (omega arith)) in
         record {
           low = l;
           rises = λ k m. drops-not k (omega arith) (below-lowest drops (suc k) drops-fit drops-any (omega arith));
           value = v;
           some = some-higher b q (digit (has (position .mover) (suc q))) (getD b q 0) n refl (omega arith) (value-le b vs q);
+          stone = ap (bit (stones position)) k ∙ o;
         }

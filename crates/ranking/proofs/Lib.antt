@@ -9,3 +9,4 @@ pub mod Following
 pub mod Parts
 pub mod Descents
 pub mod NextPosition
+pub mod Runs

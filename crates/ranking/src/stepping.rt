@@ -1,7 +1,6 @@
 // The position of the next rank, and of a rank a few steps on, from a position: no loop over the points.
 ghost use mathlib.Core.Path.{_≡_};
 ghost use Prim.Native.Nat.{suc, _+_, _-_, _*_, _/_, _^_, _≤_, _<_};
-ghost use Rattle.sets.specs.Sets.{members};
 ghost use Rattle.board.specs.Board.{count, boardOf, positionOf, OnBoard};
 ghost use Rattle.sizes.specs.Size.{size};
 ghost use Rattle.sizes.specs.Binomial.{BinomialTable};
@@ -18,20 +17,12 @@ fn ends(s: u32) -> u32
     2 * s - (2 * s & s)
 }
 
-// How many points below p are members.
-fn count_below(s: u32, p: usize) -> usize
-    requires { ⌜ p < 32 ⌝ }
-    ensures { λ r. ⌜ r ≡ members s p ⌝ }
-{
-    sets::count(s & ((1u32 << p) - 1)) as usize
-}
-
 // The set of n points from `start` on.
 fn run(n: usize, start: usize) -> u32
     requires { ⌜ n + start < 32 ⌝ }
     ensures { λ r. ⌜ r ≡ (2 ^ n - 1) * 2 ^ start ⌝ }
 {
-    ((1u32 << n) - 1) << start
+    (1u32 << (n + start)) - (1u32 << start)
 }
 
 // The members from point n on.
@@ -51,7 +42,8 @@ fn side(s: u32, p: usize, here: usize, n: usize, start: usize) -> u32
 }
 
 // The position of the next rank. Its lowest point p that holds less than the point before takes the least higher value from below; what is then
-// left below p is put first: the opponent's stones, the mover's, and the vacant points.
+// left below p is put first: the opponent's stones, the mover's, and the vacant points. The values rise up to p, so the stones there are two runs:
+// the mover's from the lowest stone, the opponent's from t, the lowest of theirs, or p where there is none.
 pub fn next(points: usize, position: Position) -> Position
     requires { ⌜ (points ≤ 24) × OnBoard points position ⌝ }
     requires { ⌜ (let b = boardOf points position in suc (rank b) < size points (count 1 b) (count 2 b)) ⌝ }
@@ -59,8 +51,9 @@ pub fn next(points: usize, position: Position) -> Position
 {
     let stones = position.mover | position.opponent;
     let p = sets::lowest(ends(position.opponent) | ends(stones));
-    let m = count_below(position.mover, p);
-    let o = count_below(position.opponent, p);
+    let t = sets::lowest(sets::with(position.opponent, p));
+    let m = t - sets::lowest(stones);
+    let o = p - t;
     let was = sets::has(position.mover, p) as usize;
     let one = (1 - was) * (0 < m) as usize;
     let mover = m + was - one;
@@ -72,7 +65,7 @@ pub fn next(points: usize, position: Position) -> Position
 }
 
 // Up to so many steps are cheaper than the way through the points.
-const STEPS: usize = 12;
+const STEPS: usize = 20;
 
 // The position of a rank from that of a lower rank: by steps where they are few.
 pub fn advance(
