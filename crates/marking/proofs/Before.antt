@@ -16,7 +16,7 @@ use Rattle.board.specs.declared.position.Position.{Position}
 use Rattle.board.specs.Board.{count, digit, setOf, valueAt, boardOf, OnBoard}
 use Rattle.board.proofs.Sides.{length-board}
 use Rattle.board.proofs.Stores.{has-set}
-use Rattle.board.proofs.OneToOne.{vacant-bits}
+use Rattle.board.proofs.OneToOne.{vacant-bits, vacant-at}
 use Rattle.sizes.specs.Size.{size}
 use Rattle.rules.specs.Ply.{exchange}
 use Rattle.rules.specs.Predecessors.{unslide}
@@ -24,7 +24,8 @@ use Rattle.rules.proofs.Leads.{slide-is}
 use Rattle.rules.proofs.OnSets.{set-within}
 use Rattle.plies.specs.Positions.{Placed}
 use Rattle.marking.specs.Stones.{VacantAt, VacantAll, Room}
-use Rattle.marking.proofs.Puts.{mover-ones, opponent-ones, put-mover-on, put-mover-board, take-mover-on, take-mover-board, put-opponent-on, put-opponent-board}
+use Rattle.ranking.specs.Inserting.{Vacant}
+use Rattle.ranking.proofs.Puts.{mover-ones, opponent-ones, put-mover-on, put-mover-board, take-mover-on, take-mover-board}
 
 -- what stands at a point, by the digits of the two sides, once the sides change names
 exchanged : (x y : ℕ) → x + y ≤ 1 → exchange (digit (eqb x 1) + 2 * digit (eqb y 1)) ≡ digit (eqb y 1) + 2 * digit (eqb x 1)
@@ -81,11 +82,10 @@ module _ (rings : ℕ) (position : Position) (placed : Placed rings position) wh
       let v = vacant-bits (8 * rings) position (placed .on) p l z in
       record { low = l; free = v .0; none = v .1 }
 
-  -- the stone at a point goes back to a vacant one
-  module _ (to from s : ℕ) (stone : bit (position .opponent) to ≡ 1) (vacant : VacantAt rings position from)
-      (made : s ≡ with (without (position .opponent) to) from) where
-    abbrev pub before : Position
-    before = sides s (position .mover)
+  -- the stone at a point taken off
+  module _ (to m : ℕ) (stone : bit (position .opponent) to ≡ 1) (made : m ≡ without (position .opponent) to) where
+    abbrev pub lifted : Position
+    lifted = sides m (position .mover)
 
     to-low : to < 8 * rings
     to-low = bit-low (8 * rings) (position .opponent) to (placed .on .opponent-within) stone
@@ -93,30 +93,71 @@ module _ (rings : ℕ) (position : Position) (placed : Placed rings position) wh
     to-none : bit (position .mover) to ≡ 0
     to-none = omega (arith, placed .on .apart to to-low, stone)
 
+    pub lifted-placed : Placed rings lifted
+    lifted-placed = record {
+      small = placed .small;
+      on = subst (λ (k : ℕ). OnBoard (8 * rings) (sides k (position .mover))) (sym made)
+          (take-mover-on (8 * rings) (turned position) (turned-placed .on) to to-low to-none);
+    }
+
+    -- put down again, it has come from there
+    pub lifted-board : (from : ℕ) → set (boardOf (8 * rings) lifted) from 1 ≡ unslide (boardOf (8 * rings) position) to from
+    unfolding unslide
+    lifted-board from =
+        ap (λ (k : ℕ). set (boardOf (8 * rings) (sides k (position .mover))) from 1) made
+        ∙ ap (λ (b : List ℕ). set b from 1) (take-mover-board (8 * rings) (turned position) (turned-placed .on) to to-low to-none
+        ∙ ap (λ (b : List ℕ). set b to 0) turned-board)
+        ∙ sym (slide-is (map (λ v. exchange v) (boardOf (8 * rings) position)) to from)
+
+    pub lifted-mover : count 2 (boardOf (8 * rings) position) ≡ count 1 (boardOf (8 * rings) lifted) + 1
+    lifted-mover = omega (
+      arith,
+      mover-ones (8 * rings) few lifted (lifted-placed .on),
+      ap ones made,
+      ones-without (position .opponent) to stone,
+      opponent-ones (8 * rings) few position (placed .on),
+    )
+
+    pub lifted-opponent : count 1 (boardOf (8 * rings) position) ≡ count 2 (boardOf (8 * rings) lifted)
+    lifted-opponent = mover-ones (8 * rings) few position (placed .on) ∙ sym (opponent-ones (8 * rings) few lifted (lifted-placed .on))
+
+    -- the vacant points stay vacant
+    pub lifted-vacant : (p : ℕ) → VacantAt rings position p → VacantAt rings lifted p
+    lifted-vacant p v =
+        let there : (p ≡ to → ⊥) = λ i. omega (arith, v .none, ap (λ (q : ℕ). bit (position .opponent) q) i, stone) in
+        record {
+          low = v .low;
+          free = ap (λ (k : ℕ). bit k p) made ∙ bit-without-other (position .opponent) to p there ∙ v .none;
+          none = v .free;
+        }
+
+  -- the stone at a point goes back to a vacant one
+  module _ (to from s : ℕ) (stone : bit (position .opponent) to ≡ 1) (vacant : VacantAt rings position from)
+      (made : s ≡ with (without (position .opponent) to) from) where
+    abbrev pub before : Position
+    before = sides s (position .mover)
+
+    abbrev off : Position
+    off = sides (without (position .opponent) to) (position .mover)
+
+    off-placed : Placed rings off
+    off-placed = lifted-placed to (without (position .opponent) to) stone refl
+
     apart : from ≡ to → ⊥
     apart e = let z = sym (vacant .none) ∙ ap (λ (q : ℕ). bit (position .opponent) q) e ∙ stone in omega arith
-
-    abbrev lifted : Position
-    lifted = sides (without (position .opponent) to) (position .mover)
-
-    lifted-on : OnBoard (8 * rings) lifted
-    lifted-on = take-mover-on (8 * rings) (turned position) (turned-placed .on) to to-low to-none
 
     pub before-placed : Placed rings before
     before-placed = record {
       small = placed .small;
       on = subst (λ (m : ℕ). OnBoard (8 * rings) (sides m (position .mover))) (sym made)
-          (put-mover-on (8 * rings) lifted lifted-on from (vacant .low) (vacant .free));
+          (put-mover-on (8 * rings) off (off-placed .on) from (vacant .low) (vacant .free));
     }
 
     pub before-board : boardOf (8 * rings) before ≡ unslide (boardOf (8 * rings) position) to from
-    unfolding unslide
     before-board =
         ap (λ (m : ℕ). boardOf (8 * rings) (sides m (position .mover))) made
-        ∙ put-mover-board (8 * rings) lifted lifted-on from (vacant .low) (vacant .free)
-        ∙ ap (λ (b : List ℕ). set b from 1) (take-mover-board (8 * rings) (turned position) (turned-placed .on) to to-low to-none
-        ∙ ap (λ (b : List ℕ). set b to 0) turned-board)
-        ∙ sym (slide-is (map (λ v. exchange v) (boardOf (8 * rings) position)) to from)
+        ∙ put-mover-board (8 * rings) off (off-placed .on) from (vacant .low) (vacant .free)
+        ∙ lifted-board to (without (position .opponent) to) stone refl from
 
     pub before-mover : count 1 (boardOf (8 * rings) before) ≡ count 2 (boardOf (8 * rings) position)
     before-mover =
@@ -141,30 +182,12 @@ module _ (rings : ℕ) (position : Position) (placed : Placed rings position) wh
           none = v .free;
         }
 
-  -- one opposing stone more, at a vacant point
-  module _ (p s : ℕ) (vacant : VacantAt rings position p) (made : s ≡ with (position .opponent) p) where
-    abbrev pub fuller : Position
-    fuller = sides (position .mover) s
-
-    pub fuller-placed : Placed rings fuller
-    fuller-placed = record {
-      small = placed .small;
-      on = subst (λ (o : ℕ). OnBoard (8 * rings) (sides (position .mover) o)) (sym made)
-          (put-opponent-on (8 * rings) position (placed .on) p (vacant .low) (vacant .free));
-    }
-
-    pub fuller-board : boardOf (8 * rings) fuller ≡ set board p 2
-    fuller-board =
-        ap (λ (o : ℕ). boardOf (8 * rings) (sides (position .mover) o)) made
-        ∙ put-opponent-board (8 * rings) position (placed .on) p (vacant .low) (vacant .free)
-
-    pub fuller-mover : count 1 (boardOf (8 * rings) fuller) ≡ count 1 board
-    fuller-mover = mover-ones (8 * rings) few fuller (fuller-placed .on) ∙ sym (mover-ones (8 * rings) few position (placed .on))
-
-    pub fuller-opponent : count 2 (boardOf (8 * rings) fuller) ≡ count 2 board + 1
-    fuller-opponent =
-        opponent-ones (8 * rings) few fuller (fuller-placed .on) ∙ ap ones made ∙ ones-with (position .opponent) p (vacant .none)
-        ∙ omega (arith, opponent-ones (8 * rings) few position (placed .on))
+  -- a vacant point of the board
+  pub vacant-board : (p : ℕ) → VacantAt rings position p → Vacant board p
+  vacant-board p v = record {
+    low = subst (λ (n : ℕ). p < n) (sym (length-board (8 * rings) position)) (v .low);
+    empty = vacant-at (8 * rings) position (placed .on) p (v .low) (v .free) (v .none);
+  }
 
 -- a table's room, by other names of its counts and of the places
 pub room-same : {points m o start end places m′ o′ places′ : ℕ} → Room points m o start end places → m ≡ m′ → o ≡ o′ → places ≡ places′

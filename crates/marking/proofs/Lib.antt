@@ -1,5 +1,4 @@
 pub mod Before
 pub mod Marks
 pub mod Marking
-pub mod Puts
 pub mod Stones

@@ -10,7 +10,7 @@ use lib.ListN.{getD, set}
 use borrow.Author.Tests.{ne-eqb, eqb-false}
 use Rattle.lists.specs.Lists.{keep, each}
 use Rattle.lists.proofs.Keep.{keep-yes, keep-no}
-use Rattle.lists.proofs.Members.{keep-member, member-keep}
+use Rattle.lists.proofs.Members.{keep-member, member-keep, map-same}
 use Rattle.lists.proofs.Rises.{rising-keep, rising-same}
 use Rattle.lists.proofs.Tests.{clash, keep-same}
 use Rattle.sets.specs.Sets.{bit, has, with, without, elements, setFrom}
@@ -28,8 +28,9 @@ use Rattle.rules.proofs.OnSets.{holding-set, in-mill-set}
 use Rattle.plies.specs.Positions.{Placed}
 use Rattle.plies.proofs.Stones.{elements-targets, targets-vacant}
 use Rattle.marking.specs.Stones.{mayHaveMoved, beforeStone, VacantAt, VacantAll}
-use Rattle.marking.proofs.Puts.{mover-ones, opponent-ones}
-use Rattle.marking.proofs.Before.{turned, turned-placed, turned-board, before, before-board}
+use Rattle.ranking.proofs.Puts.{mover-ones, opponent-ones}
+use Rattle.marking.proofs.Before.{turned, turned-placed, turned-board, lifted, lifted-board, before, before-board}
+use Rattle.marking.proofs.Marking.{each-one}
 
 -- the elements of a set with one point less
 elements-without : (n s p : ℕ) → elements n (without s p) ≡ keep (λ q. not (eqb q p)) (elements n s)
@@ -89,6 +90,16 @@ module _ (rings : ℕ) (position : Position) (placed : Placed rings position) wh
   restored-given to from s stone vacant made others e =
       ap₂ (λ (b : List ℕ) (o : ℕ). map (λ p. set b p 2) (elements 32 o)) (before-board rings position placed to from s stone vacant made) e
       ∙ sym (restored-one to from)
+
+  -- none was removed: the stone is put down at each point that it may have come from
+  pub lifted-given : (to m : ℕ) (stone : bit (position .opponent) to ≡ 1) (made : m ≡ without (position .opponent) to) (froms : List ℕ)
+      → map (λ from. set (boardOf (8 * rings) (lifted rings position placed to m stone made)) from 1) froms
+      ≡ each (λ from. restored false rings board to from) froms
+  unfolding restored
+  lifted-given to m stone made froms =
+      map-same (λ from. set (boardOf (8 * rings) (lifted rings position placed to m stone made)) from 1) (unslide board to) froms
+      (λ from e. lifted-board rings position placed to m stone made from)
+      ∙ sym (each-one (unslide board to) froms)
 
   -- a stone comes from where it might go on to, were its side to move
   origins-targets : (to : ℕ) → origins rings board to ≡ targets rings (boardOf (8 * rings) (turned position)) to

@@ -1,7 +1,7 @@
 // Marks the open positions that have a ply to a given one. In that one the sides have changed names, so the side that moved is the opponent.
 ghost use mathlib.Core.Path.{_≡_};
 ghost use mathlib.Core.List.{map};
-ghost use Prim.Native.Nat.{_+_, _*_, _<_};
+ghost use Prim.Native.Nat.{suc, _+_, _-_, _*_, _<_};
 ghost use lib.ListN.{length, set};
 ghost use Rattle.lists.specs.Lists.{each};
 ghost use Rattle.sets.specs.Sets.{bit, elements};
@@ -32,6 +32,37 @@ fn mark_position(
     parts::mark_entry(tablebase, start, end, r);
 }
 
+// Marks the positions that have one stone more, the opponent's or the mover's, at each of some vacant points. They are ranked in one walk up the points.
+fn mark_put(
+    tablebase: &mut [u16],
+    binomials: &[u32; 625],
+    rings: usize,
+    start: usize,
+    end: usize,
+    base: board::Position,
+    theirs: bool,
+    points: u32,
+)
+    requires { ⌜ BinomialTable (now binomials) ⌝ }
+    requires { ⌜ Placed rings base × VacantAll rings base points ⌝ }
+    requires { ⌜ Room (8 * rings) (count 1 (boardOf (8 * rings) base) + (1 - digit theirs)) (count 2 (boardOf (8 * rings) base) + digit theirs)
+        start end (length (now tablebase)) ⌝ }
+    ensures { λ _. ⌜ now (tablebase .exit)
+        ≡ marked (places start (map (λ p. set (boardOf (8 * rings) base) p (suc (digit theirs))) (elements 32 points))) (now (tablebase .entry)) ⌝ }
+{
+    if points != 0 {
+        let mut walk = ranking::begin(binomials, 8 * rings, base, theirs, sets::lowest(points));
+        let mut left = points;
+        while left != 0 {
+            let p = sets::lowest(left);
+            walk = ranking::go_to(binomials, 8 * rings, base, theirs, walk, p);
+            let r = ranking::rank_at(binomials, 8 * rings, base, theirs, walk);
+            parts::mark_entry(tablebase, start, end, r);
+            left = sets::without(left, p);
+        }
+    }
+}
+
 // Marks the positions that have one opposing stone more, at each of some vacant points.
 fn mark_restored(
     tablebase: &mut [u16],
@@ -48,22 +79,16 @@ fn mark_restored(
     ensures { λ _. ⌜ now (tablebase .exit)
         ≡ marked (places start (map (λ p. set (boardOf (8 * rings) before) p 2) (elements 32 points))) (now (tablebase .entry)) ⌝ }
 {
-    let mut left = points;
-    while left != 0 {
-        let p = sets::lowest(left);
-        mark_position(
-            tablebase,
-            binomials,
-            rings,
-            start,
-            end,
-            board::Position {
-                mover: before.mover,
-                opponent: sets::with(before.opponent, p),
-            },
-        );
-        left = sets::without(left, p);
-    }
+    mark_put(
+        tablebase,
+        binomials,
+        rings,
+        start,
+        end,
+        before,
+        true,
+        points,
+    );
 }
 
 // Marks the positions in which the stone at one point stood at another; where a stone was removed, with that stone at each other vacant point.
@@ -99,8 +124,8 @@ fn mark_origin(
     }
 }
 
-// Marks the positions in which the stone at one point stood at any of some vacant points.
-fn mark_origins(
+// Marks the positions in which the stone at one point stood at any of some vacant points, one after the other.
+fn mark_each_origin(
     tablebase: &mut [u16],
     binomials: &[u32; 625],
     rings: usize,
@@ -134,6 +159,59 @@ fn mark_origins(
             from,
         );
         left = sets::without(left, from);
+    }
+}
+
+// For so few origins the walk up the points costs more than it saves.
+const FEW: u32 = 4;
+
+// Marks the positions in which the stone at one point stood at any of some vacant points.
+fn mark_origins(
+    tablebase: &mut [u16],
+    binomials: &[u32; 625],
+    rings: usize,
+    start: usize,
+    end: usize,
+    capture: bool,
+    position: board::Position,
+    to: usize,
+    froms: u32,
+)
+    requires { ⌜ BinomialTable (now binomials) ⌝ }
+    requires { ⌜ Placed rings position ⌝ }
+    requires { ⌜ Room (8 * rings) (count 2 (boardOf (8 * rings) position)) (count 1 (boardOf (8 * rings) position) + digit capture)
+        start end (length (now tablebase)) ⌝ }
+    requires { ⌜ (bit (position .opponent) to ≡ 1) × VacantAll rings position froms ⌝ }
+    ensures { λ _. ⌜ now (tablebase .exit)
+        ≡ marked (places start (each (λ from. restored capture rings (boardOf (8 * rings) position) to from) (elements 32 froms))) (now (tablebase .entry)) ⌝ }
+{
+    if capture | (sets::count(froms) <= FEW) {
+        mark_each_origin(
+            tablebase,
+            binomials,
+            rings,
+            start,
+            end,
+            capture,
+            position,
+            to,
+            froms,
+        );
+    } else {
+        let lifted = board::Position {
+            mover: sets::without(position.opponent, to),
+            opponent: position.mover,
+        };
+        mark_put(
+            tablebase,
+            binomials,
+            rings,
+            start,
+            end,
+            lifted,
+            false,
+            froms,
+        );
     }
 }
 

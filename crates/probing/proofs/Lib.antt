@@ -1,3 +1,4 @@
 pub mod Answers
 pub mod Keys
 pub mod Reading
+pub mod Jumps

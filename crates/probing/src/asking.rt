@@ -12,6 +12,7 @@ ghost use Rattle.plies.specs.Masks.{NeighbourMasks, MillMasks};
 ghost use Rattle.plies.specs.Positions.{Placed};
 ghost use Rattle.probing.specs.Probes.{key, asked};
 ghost use Rattle.probing.specs.Questions.{Readable, answers};
+ghost use Rattle.probing.specs.Jumping.{Jumping};
 use super::entries;
 
 // Entries below are depths; this one is void, the next draw.
@@ -110,8 +111,8 @@ fn some_removal(
     false
 }
 
-// Whether some move of one stone, to the set of its targets, leads to such a position.
-fn some_target(
+// Whether some move of one stone, to the set of its targets, leads to such a position: one move after the other.
+fn some_slide(
     tablebase: &[u16],
     binomials: &[u32; 625],
     mills: &[u32; 48],
@@ -147,6 +148,139 @@ fn some_target(
         left = sets::without(left, to);
     }
     false
+}
+
+// The set of 31 alone: nothing is removed.
+const NO_REMOVAL: u32 = 2147483648;
+
+// Whether one of the moves of a slide leads to such a position, where a walk has reached its target: without a removal the rank is the walk's.
+fn some_at(
+    tablebase: &[u16],
+    binomials: &[u32; 625],
+    rings: usize,
+    question: Question,
+    position: board::Position,
+    slide: usize,
+    removals: u32,
+    lifted: board::Position,
+    walk: ranking::Insertion,
+) -> bool
+    requires { ⌜ BinomialTable (now binomials) ⌝ }
+    requires { ⌜ Placed rings position ⌝ }
+    requires { ⌜ Readable (length (now tablebase)) rings question (boardOf (8 * rings) position) ⌝ }
+    requires { ⌜ (slide + 31 < 65536)
+        × ((r : ℕ) → bit removals r ≡ 1 → member (slide + r) (listedMoves rings (boardOf (8 * rings) position)) ≡ true) ⌝ }
+    requires { ⌜ Jumping rings position lifted walk slide ⌝ }
+    ensures { λ r. ⌜ r ≡ any (λ p. answers (now (tablebase .entry)) question (boardOf (8 * rings) position)
+        (afterPly (boardOf (8 * rings) position) (slide + p))) (elements 32 removals) ⌝ }
+{
+    if removals == NO_REMOVAL {
+        let r = ranking::rank_at(binomials, 8 * rings, lifted, true, walk);
+        return asked(question, tablebase[question.same + r]);
+    }
+    some_removal(
+        tablebase,
+        binomials,
+        rings,
+        question,
+        position,
+        slide,
+        removals,
+    )
+}
+
+// Whether some move of one stone, to the set of its targets, leads to such a position: in one walk up the targets.
+fn some_jump(
+    tablebase: &[u16],
+    binomials: &[u32; 625],
+    mills: &[u32; 48],
+    rings: usize,
+    question: Question,
+    position: board::Position,
+    from: usize,
+    tos: u32,
+) -> bool
+    requires { ⌜ BinomialTable (now binomials) ⌝ }
+    requires { ⌜ MillMasks rings (now mills) ⌝ }
+    requires { ⌜ Placed rings position ⌝ }
+    requires { ⌜ Readable (length (now tablebase)) rings question (boardOf (8 * rings) position) ⌝ }
+    requires { ⌜ (bit (position .mover) from ≡ 1) × (tos ≡ setFrom (targets rings (boardOf (8 * rings) position) from)) ⌝ }
+    requires { ⌜ (tos ≡ 0 → ⊥) ⌝ }
+    ensures { λ r. ⌜ r ≡ any (λ m. answers (now (tablebase .entry)) question (boardOf (8 * rings) position)
+        (afterPly (boardOf (8 * rings) position) m)) (listedFrom rings (boardOf (8 * rings) position) from (targets rings (boardOf (8 * rings) position) from)) ⌝ }
+{
+    let lifted = board::Position {
+        mover: position.opponent,
+        opponent: sets::without(position.mover, from),
+    };
+    let mut walk = ranking::begin(binomials, 8 * rings, lifted, true, sets::lowest(tos));
+    let mut left = tos;
+    while left != 0 {
+        let target = sets::lowest(left);
+        walk = ranking::go_to(binomials, 8 * rings, lifted, true, walk, target);
+        let removals = plies::removals(rings, mills, position, from, target);
+        if some_at(
+            tablebase,
+            binomials,
+            rings,
+            question,
+            position,
+            plies::FROM * from + plies::TO * target,
+            removals,
+            lifted,
+            walk,
+        ) {
+            return true;
+        }
+        left = sets::without(left, target);
+    }
+    false
+}
+
+// For so few targets the walk costs more than it saves.
+const FEW: u32 = 4;
+
+// Whether some move of one stone, to the set of its targets, leads to such a position.
+fn some_target(
+    tablebase: &[u16],
+    binomials: &[u32; 625],
+    mills: &[u32; 48],
+    rings: usize,
+    question: Question,
+    position: board::Position,
+    from: usize,
+    tos: u32,
+) -> bool
+    requires { ⌜ BinomialTable (now binomials) ⌝ }
+    requires { ⌜ MillMasks rings (now mills) ⌝ }
+    requires { ⌜ Placed rings position ⌝ }
+    requires { ⌜ Readable (length (now tablebase)) rings question (boardOf (8 * rings) position) ⌝ }
+    requires { ⌜ (bit (position .mover) from ≡ 1) × (tos ≡ setFrom (targets rings (boardOf (8 * rings) position) from)) ⌝ }
+    ensures { λ r. ⌜ r ≡ any (λ m. answers (now (tablebase .entry)) question (boardOf (8 * rings) position)
+        (afterPly (boardOf (8 * rings) position) m)) (listedFrom rings (boardOf (8 * rings) position) from (targets rings (boardOf (8 * rings) position) from)) ⌝ }
+{
+    if sets::count(tos) <= FEW {
+        return some_slide(
+            tablebase,
+            binomials,
+            mills,
+            rings,
+            question,
+            position,
+            from,
+            tos,
+        );
+    }
+    some_jump(
+        tablebase,
+        binomials,
+        mills,
+        rings,
+        question,
+        position,
+        from,
+        tos,
+    )
 }
 
 // Whether some successor of a position has an entry that is asked for.

@@ -1,7 +1,7 @@
 -- Digits of a union and of a difference of sets, the set without its least member, and what a point's digits say of a board's stones. Assumes
 -- nothing.
-use mathlib.Core.Path.{_≡_, sym, ap, ap₂, _∙_, subst}
-use mathlib.Core.Bool.{true, false}
+use mathlib.Core.Path.{_≡_, refl, sym, ap, ap₂, _∙_, subst}
+use mathlib.Core.Bool.{Bool, true, false}
 use mathlib.Core.List.{List, _∷_, List·Memᴰ, List·Memᴰ·cases-cons}
 use mathlib.Core.Logic.{⊎-elim}
 use Prim.Native.Nat.{ℕ, zero, suc, _+_, _-_, _*_, _/_, _%_, _^_, _≤_, _<_, min, max}
@@ -9,9 +9,10 @@ use native.Mathlib.Nat.{pow-suc}
 use native.Mathlib.Omega.{arith}
 use lib.Arith.{digits-div, digits-mod}
 use lib.Bits.{bitAnd, bitOr, and-step, and-self, and-le-l, or-step, or-shr}
+use lib.Dec.{ltb}
 use lib.ListN.{getD}
 use lib.Pow.{pow-pos}
-use borrow.Author.Tests.{eqb-true, eqb-false}
+use borrow.Author.Tests.{eqb-true, eqb-false, ltb-true, ltb-false}
 use Rattle.lists.specs.Lists.{Rising}
 use Rattle.lists.proofs.Rises.{above-member}
 use Rattle.sets.specs.Sets.{bit, has, without, elements, lowest}
@@ -76,6 +77,13 @@ below-lowest s q fits some h = ⊎-elim (λ z. z) (λ o. absurd (no o)) (bit-cas
         let m = is-element 32 s q (omega (arith, lowest-low s fits some)) o in
         ⊎-elim (λ e. omega arith) (λ k. omega (arith, above-member (lowest s) (elements 32 (without s (lowest s))) (rising .0) q k))
         (List·Memᴰ·cases-cons (subst (λ (l : List ℕ). List·Memᴰ q l) apart m))
+
+pub lowest-least : (s q : ℕ) → s < 2 ^ 32 → (s ≡ 0 → ⊥) → bit s q ≡ 1 → lowest s ≤ q
+lowest-least s q fits some h = go (ltb q (lowest s)) refl
+  where
+    go : (b : Bool) → ltb q (lowest s) ≡ b → lowest s ≤ q
+    go true e = absurd (omega (arith, below-lowest s q fits some (ltb-true q (lowest s) e), h))
+    go false e = ltb-false q (lowest s) e
 
 -- one less than a set turns the digits up to the least member: what both have is the rest
 and-pred : (k s : ℕ) → bit s k ≡ 1 → ((q : ℕ) → q < k → bit s q ≡ 0) → bitAnd s (s - 1) ≡ s - 2 ^ k

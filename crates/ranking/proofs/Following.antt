@@ -113,7 +113,7 @@ module _ (x : ℕ) (xs : List ℕ) (y m′ o′ : ℕ) (value : x ≤ 2) (vs : V
 reverse-around : (a : List ℕ) (x : ℕ) (d : List ℕ) → reverse (a ++ x ∷ d) ≡ reverse d ++ x ∷ reverse a
 reverse-around a x d = reverse-append a (x ∷ d) ∙ ap (λ (l : List ℕ). l ++ reverse a) (reverse-cons x d) ∙ append-assoc (reverse d) (x ∷ []) (reverse a)
 
-values-drop : (n : ℕ) (b : List ℕ) → Values b → Values (drop n b)
+pub values-drop : (n : ℕ) (b : List ℕ) → Values b → Values (drop n b)
 values-drop zero b v = v
 values-drop (suc n) [] v = tt
 values-drop (suc n) (x ∷ b) v = values-drop n b (v .1)

@@ -10,3 +10,5 @@ pub mod Parts
 pub mod Descents
 pub mod NextPosition
 pub mod Runs
+pub mod Puts
+pub mod Insertions

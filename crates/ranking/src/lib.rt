@@ -9,9 +9,14 @@ ghost use Rattle.ranking.specs.Rank.{rank};
 ghost use Rattle.ranking.specs.Unrank.{below, topValue, unrank};
 ghost use Rattle.ranking.specs.Choice.{choice};
 
+mod inserting;
 mod stepping;
 
 use board::Position;
+pub use inserting::Insertion;
+pub use inserting::begin;
+pub use inserting::go_to;
+pub use inserting::rank_at;
 pub use stepping::advance;
 pub use stepping::next;
 

@@ -1,90 +1,91 @@
--- `marking::mark_origins` meets its contract. Assumes nothing.
-use mathlib.Core.Path.{_≡_, refl, sym}
+-- `marking::mark_origins` meets its contract: either way marks the same boards. Assumes nothing.
+use mathlib.Core.Path.{_≡_, refl, sym, ap, _∙_}
+use mathlib.Core.Bool.{Bool, false}
+use mathlib.Core.List.{List}
 use Prim.Native.Nat.{ℕ, _*_}
 use native.Mathlib.Omega.{arith}
-use Rattle.sets.specs.Sets.{without}
-use Rattle.sets.proofs.Elements.{Taken, taken}
-use Rattle.board.specs.Board.{boardOf}
+use Rattle.lists.specs.Lists.{each}
+use Rattle.lists.proofs.Tests.{or-left}
+use Rattle.sets.specs.Sets.{elements}
+use Rattle.sets.proofs.Elements.{bit-low}
+use Rattle.board.specs.Board.{digit, boardOf}
 use Rattle.rules.specs.Predecessors.{restored}
-use Rattle.marking.specs.Stones.{VacantAt}
-use Rattle.marking.proofs.Marking.{Marking, marking-none, marking-more, marking-all}
-use Rattle.marking.proofs.Before.{room-same}
+use Rattle.plies.proofs.OnPositions.{opponent-small}
+use Rattle.marking.specs.Marks.{marked, places}
+use Rattle.marking.proofs.Before.{lifted-placed, lifted-mover, lifted-opponent, lifted-vacant, room-same}
+use Rattle.marking.proofs.Stones.{lifted-given}
+use borrow.Author.Needs.{needs}
 use Rattle.marking.proofs.mark_origins.Statement.{statement}
 use Rattle.marking.proofs.mark_origins.Tie as tie
 
-abbrev Inv-loop : tie.InvT-loop
-Inv-loop tablebase₀ binomials rings start end capture position to froms left₀ tablebase left =
-    Marking start (λ from. restored capture rings (boardOf (8 * rings) position) to from) tablebase₀ froms tablebase left
+count-requires : tie.Need-count-requires
+count-requires c κs = search needs
 
-abbrev μ-loop : tie.MeasureT-loop
-μ-loop tablebase₀ binomials rings start end capture position to froms left₀ tablebase left = left
+mark-each-origin-requires : tie.Need-mark-each-origin-requires
+mark-each-origin-requires c κs = search needs
 
--- the point taken, and the rest
-step : (c : tie.After-lowest Inv-loop μ-loop) (rest : ℕ) → rest ≡ without (c .before .before .loop .left) (c .lowest .result)
-    → Taken 32 (c .before .before .loop .left) (c .lowest .result) rest
-step c rest e =
-    let x = c .before .before in
-    taken 32 (x .loop .left) (c .lowest .result) rest (omega arith) (x .loop .inv .within) (c .before .loop-test .taken) (c .lowest .ensures .0) e
+-- by the walk no stone was removed
+none : (c : tie.Else1) → c .before .before .before .args .capture ≡ false
+none c = or-left (c .before .before .before .args .capture) _ (c .if1 .left)
 
--- it is vacant
-vacant : (c : tie.After-lowest Inv-loop μ-loop)
-    → VacantAt (c .before .before .before .before .args .rings) (c .before .before .before .before .args .position) (c .lowest .result)
-vacant c =
-    let x = c .before .before in
-    x .before .before .pre .1 .1 .1 .1 (c .lowest .result)
-    (x .loop .inv .among (c .lowest .result) (step c (without (x .loop .left) (c .lowest .result)) refl .member))
+without-requires : tie.Need-without-requires
+without-requires c κs =
+    let s = c .before .before .before in
+    let a = s .args in
+    omega (
+      arith,
+      bit-low 24 (a .position .opponent) (a .to) (opponent-small (a .rings) (a .position) (s .pre .1 .0)) (s .pre .1 .1 .1 .0),
+    )
 
-loop-holds : tie.Need-loop-holds Inv-loop μ-loop
-loop-holds c =
-    let s = c .before in
-    marking-none _ _ (s .args .tablebase .now) (s .args .froms) (s .fits .froms .fits)
+mark-put-requires : tie.Need-mark-put-requires
+mark-put-requires c κs =
+    let w = c .before in
+    let s = w .before .before .before .before in
+    let a = s .args in
+    let p = s .pre .1 .0 in
+    let g = s .pre .1 .1 .1 in
+    let m : ℕ = w .without .result in (
+      s .pre .0,
+      (
+        (
+          lifted-placed (a .rings) (a .position) p (a .to) m (g .0) (w .without .ensures),
+          λ q e. lifted-vacant (a .rings) (a .position) p (a .to) m (g .0) (w .without .ensures) q (g .1 q e),
+        ),
+        room-same (s .pre .1 .1 .0) (lifted-mover (a .rings) (a .position) p (a .to) m (g .0) (w .without .ensures))
+            (omega (arith, lifted-opponent (a .rings) (a .position) p (a .to) m (g .0) (w .without .ensures), ap digit (none (w .before)))) refl,
+      ),
+    )
 
-lowest-requires : tie.Need-lowest-requires Inv-loop μ-loop
-lowest-requires c κs = c .loop-test .taken
+same-length : tie.Need-same-length
+same-length c = search needs
 
-mark-origin-requires : tie.Need-mark-origin-requires Inv-loop μ-loop
-mark-origin-requires c κs =
-    let l = c .before in
-    let x = l .before .before in
-    let s = x .before .before in
-    (s .pre .0, (s .pre .1 .0, (room-same (s .pre .1 .1 .0) refl refl (sym (x .loop .inv .long)), (s .pre .1 .1 .1 .0, vacant l))))
+returns : tie.Need-returns
+returns c = search needs
 
-without-requires : tie.Need-without-requires Inv-loop μ-loop
-without-requires c κs = c .before .before .before .before .lowest .ensures .1
+same-length-2 : tie.Need-same-length-2
+same-length-2 c = search needs
 
-loop-less : tie.Need-loop-less Inv-loop μ-loop
-loop-less c = step (c .before .before .before .before .before) (c .without .result) (c .without .ensures) .less
-
-loop-again : tie.Need-loop-again Inv-loop μ-loop
-loop-again c =
-    let m = c .before .before .before in
-    let l = m .before .before in
-    let x = l .before .before in
-    let a = x .before .before .args in
-    marking-more (a .start) (λ from. restored (a .capture) (a .rings) (boardOf (8 * a .rings) (a .position)) (a .to) from) (a .tablebase .now) (a .froms)
-    (x .loop .tablebase) (x .loop .left) (l .lowest .result) (c .without .result) _ (x .loop .inv) (step l (c .without .result) (c .without .ensures))
-    (m .mark-origin .ensures)
-
-same-length : tie.Need-same-length Inv-loop μ-loop
-same-length c = c .before .loop .inv .long
-
-returns : tie.Need-returns Inv-loop μ-loop
-returns c =
-    let x = c .before in
-    let a = x .before .before .args in
-    marking-all _ _ (a .tablebase .now) (a .froms) (x .loop .tablebase) (x .loop .left) (x .loop .inv) (c .loop-test .left)
+returns-2 : tie.Need-returns-2
+returns-2 c =
+    let m = c .before .before in
+    let w = m .before .before in
+    let s = w .before .before .before .before in
+    let a = s .args in
+    let b : List ℕ = boardOf (8 * a .rings) (a .position) in
+    m .mark-put .ensures
+    ∙ ap (λ (l : List (List ℕ)). marked (places (a .start) l) (a .tablebase .now))
+    (lifted-given (a .rings) (a .position) (s .pre .1 .0) (a .to) (w .without .result) (s .pre .1 .1 .1 .0) (w .without .ensures) (elements 32 (a .froms))
+    ∙ ap (λ (t : Bool). each (λ from. restored t (a .rings) b (a .to) from) (elements 32 (a .froms))) (sym (none (w .before))))
 
 pub mark-origins-spec : {M : Type 1} → statement M
 mark-origins-spec =
     tie.close
     (tie.spec
-    Inv-loop
-    μ-loop
-    loop-holds
-    lowest-requires
-    mark-origin-requires
+    count-requires
+    mark-each-origin-requires
     without-requires
-    loop-less
-    loop-again
+    mark-put-requires
     same-length
-    returns)
+    returns
+    same-length-2
+    returns-2)

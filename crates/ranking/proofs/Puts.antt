@@ -2,7 +2,7 @@
 -- Assumes nothing.
 use mathlib.Core.Path.{_≡_, refl, sym, ap, ap₂, subst, _∙_}
 use mathlib.Core.Bool.{Bool, true, false}
-use Prim.Native.Nat.{ℕ, _+_, _*_, _^_, _≤_, _<_}
+use Prim.Native.Nat.{ℕ, suc, _+_, _*_, _^_, _≤_, _<_}
 use native.Mathlib.Nat.{lt-of-lt-of-le}
 use native.Mathlib.Omega.{arith}
 use lib.Count.{ones}
@@ -16,7 +16,8 @@ use Rattle.sets.proofs.Laws.{bit-with-same, bit-with-other, bit-without-same, b
 use Rattle.board.specs.declared.position.Position.{Position}
 use Rattle.board.specs.Board.{count, digit, valueAt, boardOf, OnBoard}
 use Rattle.board.proofs.Sides.{length-board, board-at}
-use Rattle.board.proofs.OneToOne.{mover-count, opponent-count}
+use Rattle.board.proofs.OneToOne.{mover-count, opponent-count, vacant-bits}
+use Rattle.ranking.specs.Inserting.{Vacant, putStone}
 
 -- what a position has at a point, by its digits
 value-is : (p : Position) (q x y : ℕ) → bit (p .mover) q ≡ x → bit (p .opponent) q ≡ y → valueAt p q ≡ digit (eqb x 1) + 2 * digit (eqb y 1)
@@ -115,3 +116,19 @@ module _ (points : ℕ) (p : Position) (w : OnBoard points p) (q : ℕ) (low : q
 
     pub put-opponent-board : boardOf points putOpponent ≡ set (boardOf points p) q 2
     put-opponent-board = stored putOpponent 2 (value-is putOpponent q 0 1 free (bit-with-same (p .opponent) q)) opponent-elsewhere
+
+-- one of either side's, by what the board has there
+module _ (points : ℕ) (p : Position) (w : OnBoard points p) (q : ℕ) (v : Vacant (boardOf points p) q) where
+  pub vacant-low : q < points
+  vacant-low = subst (λ (n : ℕ). q < n) (length-board points p) (v .low)
+
+  empty : (bit (p .mover) q ≡ 0) × (bit (p .opponent) q ≡ 0)
+  empty = vacant-bits points p w q vacant-low (v .empty)
+
+  pub put-stone-on : (x : Bool) → OnBoard points (putStone x p q)
+  put-stone-on true = put-opponent-on points p w q vacant-low (empty .0)
+  put-stone-on false = put-mover-on points p w q vacant-low (empty .1)
+
+  pub put-stone-board : (x : Bool) → boardOf points (putStone x p q) ≡ set (boardOf points p) q (suc (digit x))
+  put-stone-board true = put-opponent-board points p w q vacant-low (empty .0)
+  put-stone-board false = put-mover-board points p w q vacant-low (empty .1)
