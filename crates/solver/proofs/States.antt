@@ -13,7 +13,7 @@ use Rattle.board.specs.Board.{count}
 use Rattle.sizes.specs.Size.{size}
 use Rattle.ranking.specs.Rank.{rank}
 use Rattle.ranking.specs.Unrank.{unrank}
-use Rattle.layout.specs.Layout.{start, end, tablebaseLength}
+use Rattle.layout.specs.Layout.{start, tablebaseLength}
 use Rattle.game.specs.Game.{live, drawEntry, voidEntry, Depth, Entry}
 use Rattle.game.proofs.Depths.{NotBefore, before-or-not}
 use Rattle.game.proofs.Levels.{Fresh, Exact, exact-start, level-start, level-done}

@@ -1,11 +1,10 @@
 -- The position of a rank of a table: it is placed, stands for the board of that rank, and its successors can be read. And one place of a table at a
 -- level, by the tests that the code makes. Assumes nothing.
 use mathlib.Core.Path.{_≡_, refl, sym, ap, ap₂, subst, _∙_}
-use mathlib.Core.Bool.{Bool, true, false, _&&_}
+use mathlib.Core.Bool.{Bool, true, false}
 use mathlib.Core.List.{List}
-use Prim.Native.Nat.{ℕ, zero, suc, _+_, _*_, _≤_, _<_}
-use native.Mathlib.Numerals.{add-one}
-use lib.ListN.{length, set, length-set}
+use Prim.Native.Nat.{ℕ, _+_, _*_, _≤_, _<_}
+use lib.ListN.{set}
 use Rattle.board.specs.declared.position.Position.{Position}
 use Rattle.board.specs.Board.{positionOf, boardOf, count, OnBoard}
 use Rattle.board.proofs.Sides.{board-position, position-on}
@@ -17,7 +16,7 @@ use Rattle.game.specs.Judgement.{hit, decided}
 use Rattle.outcomes.specs.Whole.{next}
 use Rattle.probing.specs.Probes.{probe, Reads}
 use Rattle.sweeping.specs.declared.tables.Table.{Table}
-use Rattle.sweeping.specs.Levels.{Fits, isOpen, ranked, judged, sweptPlace, swept, openDecided}
+use Rattle.sweeping.specs.Levels.{Fits, isOpen, ranked, judged, sweptPlace, openDecided}
 
 pub record AtRank (n rings : ℕ) (t : Table) (same r : ℕ) (p : Position) : Type 0 where
   pub placed : Placed rings p
@@ -62,7 +61,7 @@ module _ (rings : ℕ) (t : Table) (same r : ℕ) (now : List ℕ) where
         ≡ decided (next rings) (judged rings t same now) (ranked rings t same r)
     decided-at = ap₂ (λ (y : ℕ) (c : List ℕ). decided (next rings) (λ b. probe now same (t .lower .start) y b) c) (w .opponent-is) (w .board-is)
 
-  -- a place: closed, hit, or missed
+  -- a place: passed over, hit, or missed
   module _ (passes : ℕ → Bool) (level : ℕ) where
     abbrev hits : Bool
     hits = hit (next rings) (judged rings t same now) level (ranked rings t same r)
@@ -70,14 +69,6 @@ module _ (rings : ℕ) (t : Table) (same r : ℕ) (now : List ℕ) where
     pub place-out : passes r ≡ false → now ≡ sweptPlace rings t same passes level now r
     unfolding sweptPlace
     place-out c = rw (c, sweptPlace)
-
-    pub place-closed : isOpen t now r ≡ false → now ≡ sweptPlace rings t same passes level now r
-    unfolding sweptPlace
-    place-closed e = go (passes r) refl
-      where
-        go : (b : Bool) → passes r ≡ b → now ≡ sweptPlace rings t same passes level now r
-        go true f = rw (f, e, sweptPlace)
-        go false f = rw (f, sweptPlace)
 
     pub place-hit : passes r ≡ true → isOpen t now r ≡ true → hits ≡ true → set now (t .own .start + r) level ≡ sweptPlace rings t same passes level now r
     unfolding sweptPlace
@@ -92,15 +83,6 @@ module _ (rings : ℕ) (t : Table) (same r : ℕ) (now : List ℕ) where
         go true g false f = rw (g, f, sweptPlace)
         go false g b f = rw (g, sweptPlace)
 
-    -- a sweep writes places and adds none
-    pub place-length : length (sweptPlace rings t same passes level now r) ≡ length now
-    unfolding sweptPlace
-    place-length = go (passes r && (isOpen t now r && hits))
-      where
-        go : (b : Bool) → length {A = ℕ} (elim b as (λ c. List ℕ) [ true ↦ set now (t .own .start + r) level | false ↦ now ]) ≡ length now
-        go true = length-set now (t .own .start + r) level
-        go false = refl
-
   pub closed-undecided : isOpen t now r ≡ false → false ≡ openDecided rings t same now r
   unfolding openDecided
   closed-undecided e = rw (e, openDecided)
@@ -109,19 +91,3 @@ module _ (rings : ℕ) (t : Table) (same r : ℕ) (now : List ℕ) where
       t same now r
   unfolding openDecided
   open-decided e d h = rw (e, openDecided) h
-
--- the places of a table, one after the other
-module _ (rings : ℕ) (t : Table) (same : ℕ) (passes : ℕ → Bool) (level : ℕ) (now : List ℕ) where
-  pub swept-none : now ≡ swept rings t same passes level now 0
-  unfolding swept
-  swept-none = refl
-
-  pub swept-more : (r : ℕ) (l : List ℕ) → l ≡ swept rings t same passes level now r
-      → sweptPlace rings t same passes level l r ≡ swept rings t same passes level now (r + 1)
-  unfolding swept
-  swept-more r l e = rw (e, add-one r)
-
-  pub swept-length : (n : ℕ) → length (swept rings t same passes level now n) ≡ length now
-  unfolding swept
-  swept-length zero = refl
-  swept-length (suc n) = place-length rings t same n (swept rings t same passes level now n) passes level ∙ swept-length n

@@ -1,16 +1,16 @@
 -- A level by marks is a sweep of the positions that are marked: judging them one after the other leaves what the sweep leaves, and no mark.
 -- Assumes nothing.
-use mathlib.Core.Path.{_≡_, refl, sym, ap, ap₂, subst, _∙_}
+use mathlib.Core.Path.{_≡_, refl, sym, ap, subst, _∙_}
 use mathlib.Core.Bool.{Bool, true, false}
-use mathlib.Core.List.{List, List·Memᴰ}
+use mathlib.Core.List.{List}
 use mathlib.Core.Logic.{_⊎_, inl, inr}
-use Prim.Native.Nat.{ℕ, zero, suc, _+_, _-_, _*_, _≤_, _<_}
+use Prim.Native.Nat.{ℕ, zero, suc, _+_, _-_, _≤_, _<_}
 use native.Mathlib.Decide.{ℕ-discrete}
 use native.Mathlib.Omega.{arith}
 use lib.Dec.{eqb, ltb}
 use lib.ListN.{length, getD, set, length-set}
 use lib.Seq.{getD-set-same, getD-set-other, set-getD, ext-getD}
-use borrow.Author.Tests.{eqb-true, eqb-false, eq-eqb, ne-eqb, ltb-true, ltb-false}
+use borrow.Author.Tests.{eqb-true, eq-eqb, ltb-true, ltb-false}
 use Rattle.lists.proofs.Tests.{clash}
 use Rattle.board.specs.Board.{count}
 use Rattle.ranking.specs.Rank.{rank}
@@ -22,7 +22,7 @@ use Rattle.probing.specs.Probes.{probe}
 use Rattle.sweeping.specs.declared.tables.Table.{Table}
 use Rattle.sweeping.specs.Levels.{isOpen, ranked, judged, sweptPlace, swept}
 use Rattle.sweeping.specs.Marked.{isMarked, judgedPlace, judgedFirst}
-use Rattle.sweeping.proofs.AtRank.{place-out, place-hit, place-missed, place-length}
+use Rattle.sweeping.proofs.AtRank.{place-out, place-hit, place-missed}
 
 -- an entry, or a mark where it is draw
 abbrev pub Alike : ℕ → ℕ → Type 0

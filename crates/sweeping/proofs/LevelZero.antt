@@ -1,10 +1,9 @@
 -- Level 0 finds the blocked movers: it is a sweep of all positions at that level. Assumes nothing.
-use mathlib.Core.Path.{_≡_, refl, sym, ap, ap₂, _∙_}
+use mathlib.Core.Path.{_≡_, refl, sym, ap, _∙_}
 use mathlib.Core.Bool.{Bool, true, false, _&&_}
 use mathlib.Core.List.{List, [], _∷_, map}
 use Prim.Native.Nat.{ℕ, zero, suc, _+_, _*_}
 use native.Mathlib.Numerals.{add-one}
-use lib.Dec.{eqb}
 use lib.ListN.{length, set, length-set}
 use Rattle.lists.specs.Lists.{isEmpty}
 use Rattle.ranking.specs.Unrank.{unrank}

@@ -6,7 +6,7 @@ use mathlib.Core.List.{List, List·Memᴰ}
 use mathlib.Core.Logic.{_⊎_, inl, inr}
 use Prim.Native.Nat.{ℕ, suc, _+_, _-_, _*_, _≤_, _<_}
 use native.Mathlib.Omega.{arith}
-use lib.Dec.{eqb, ltb}
+use lib.Dec.{ltb}
 use lib.ListN.{length, getD}
 use borrow.Author.Tests.{eq-eqb, eqb-true, lt-ltb, le-ltb, ltb-true, ltb-false}
 use Rattle.board.specs.Board.{Values, count}
@@ -15,7 +15,7 @@ use Rattle.ranking.specs.Rank.{rank}
 use Rattle.ranking.specs.Unrank.{unrank}
 use Rattle.ranking.proofs.Inverse.{rank-unrank}
 use Rattle.layout.specs.Layout.{start, tablebaseLength}
-use Rattle.rules.specs.Ply.{removable, afterPly, removedOf}
+use Rattle.rules.specs.Ply.{removable}
 use Rattle.rules.specs.Predecessors.{predecessors}
 use Rattle.rules.proofs.Listed.{successor-of, removable-takes}
 use Rattle.rules.proofs.Leads.{ply-leads}
@@ -35,7 +35,7 @@ use Rattle.sweeping.specs.declared.marks.Source.{Source}
 use Rattle.sweeping.specs.Levels.{Fits, swept}
 use Rattle.sweeping.specs.Marked.{sameSource, lowerSource, isSource, markedFrom, isMarked, judgedFirst, levelMarks, levelled}
 use Rattle.sweeping.proofs.Probed.{lower-starts}
-use Rattle.sweeping.proofs.Visits.{Side, board-in, swept-kept, swept-table}
+use Rattle.sweeping.proofs.Visits.{Side, swept-kept, swept-table}
 use Rattle.sweeping.proofs.Judged.{Marks, judged-swept}
 use Rattle.sweeping.proofs.Sought.{judged-lengths}
 use Rattle.sweeping.proofs.Sources.{MarkedIn, MarkedPart, part-then, closed-still, same-before, lower-before, from-marked, source-same, from-closed}

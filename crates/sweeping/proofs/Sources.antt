@@ -1,6 +1,6 @@
 -- The marks of a level: only open places of the table are marked, the depths stand where they stood, and every position before one of the depth below
 -- is marked or not open. Assumes nothing.
-use mathlib.Core.Path.{_≡_, refl, sym, ap, ap₂, subst, _∙_}
+use mathlib.Core.Path.{_≡_, refl, sym, ap, subst, _∙_}
 use mathlib.Core.Bool.{Bool, true, false}
 use mathlib.Core.List.{List, List·Memᴰ}
 use mathlib.Core.Logic.{_⊎_, inl, inr}
@@ -21,7 +21,7 @@ use Rattle.game.specs.Game.{drawEntry, voidEntry}
 use Rattle.outcomes.proofs.Ranked.{InTable, unrank-in, rank-in}
 use Rattle.marking.specs.Marks.{marked, places}
 use Rattle.marking.specs.Stones.{Room}
-use Rattle.marking.proofs.Marks.{marked-length, marked-at, marked-closed, marked-same}
+use Rattle.marking.proofs.Marks.{marked-length, marked-at, marked-closed}
 use Rattle.sweeping.specs.declared.tables.Table.{Table}
 use Rattle.sweeping.specs.declared.marks.Source.{Source}
 use Rattle.sweeping.specs.Levels.{Lies}

@@ -1,7 +1,7 @@
 -- `sweeping::levels::sweep_blocked` meets its contract. The invariant: the places passed are swept, and the cursor stands, unless nowhere.
 -- Assumes nothing.
 use mathlib.Core.Path.{_≡_, refl, sym, ap, subst, _∙_}
-use Prim.Native.Nat.{ℕ, _≤_, _<_, _-_, _+_, _*_}
+use Prim.Native.Nat.{ℕ, _≤_, _-_, _*_}
 use native.Mathlib.Omega.{arith}
 use lib.ListN.{length}
 use Rattle.sizes.specs.Size.{size}

@@ -1,12 +1,11 @@
 -- `sweeping::marks::level_table` meets its contract. Assumes nothing.
-use mathlib.Core.Path.{_≡_, sym, ap, subst, _∙_}
+use mathlib.Core.Path.{sym, ap, subst, _∙_}
 use mathlib.Core.Bool.{true, false}
-use Prim.Native.Nat.{ℕ, _-_, _*_, _<_}
+use Prim.Native.Nat.{ℕ, _-_, _*_}
 use native.Mathlib.Omega.{arith}
 use lib.ListN.{length}
 use Rattle.sizes.specs.Size.{size}
-use Rattle.game.specs.Game.{voidEntry}
-use Rattle.sweeping.specs.Levels.{Lies, Fits}
+use Rattle.sweeping.specs.Levels.{Fits}
 use Rattle.sweeping.specs.Marked.{sameSource, lowerSource}
 use Rattle.sweeping.proofs.Sources.{same-before, lower-before, from-marked}
 use Rattle.sweeping.proofs.MarkedLevels.{levelled-is}
