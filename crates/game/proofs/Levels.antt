@@ -58,7 +58,7 @@ module _ {Pos : Type 0} (next : Pos → List Pos) (seed : Pos → Seed) (S : Pos
 
   -- in the middle of level n, and before, a table holds every depth below n
   module _ (g : Ground next seed S) (n : ℕ) (b : n ≤ voidEntry) where
-    within-upto : (t : Pos → ℕ) (D : Pos → Type 0) → Within t n D → Upto next seed S t n
+    pub within-upto : (t : Pos → ℕ) (D : Pos → Type 0) → Within t n D → Upto next seed S t n
     within-upto t D w = record {
       sound = λ q s l. sound q s l (live-or-true next seed S g t (w .seeds) q s);
       complete = λ q s k l d. complete q s k l d (live-or-true next seed S g t (w .seeds) q s);
@@ -135,6 +135,10 @@ module _ {Pos : Type 0} (next : Pos → List Pos) (seed : Pos → Seed) (S : Pos
         is-done : (p : Pos) → S p → seed p ≡ live → D′ p → Depth next seed n p → Visited t u n D D′ p → u p ≡ n
         is-done p s e m d (inl x) = x .1 ∙ w .done p s e (x .0 m) d
         is-done p s e m d (inr x) = x ∙ visit-done p s e d (w .fresh p s e (d .below))
+
+    -- a table that agrees on S
+    pub within-same : (t u : Pos → ℕ) → ((q : Pos) → S q → u q ≡ t q) → (D : Pos → Type 0) → Within t n D → Within u n D
+    within-same t u same D w = pass t u D D w record { given = λ q s dead. same q s; each = λ q s e. inl (λ d. d, same q s) }
 
     -- one visit, at p
     pub one : (t u : Pos → ℕ) (D : Pos → Type 0) (p : Pos) → Within t n D

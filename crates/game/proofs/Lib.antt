@@ -11,6 +11,10 @@ pub mod Hits
 pub mod Stopping
 pub mod Levels
 pub mod Agree
+pub mod Alike
+pub mod Maps
+pub mod Mapped
+pub mod Classes
 pub mod Certificate
 pub mod Compose
 pub mod Play

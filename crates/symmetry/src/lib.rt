@@ -11,7 +11,7 @@ ghost use Rattle.symmetry.specs.Representative.{inUse, leastImage, repre
 const SYMMETRIES: usize = 16;
 
 // The place whose stone symmetry g brings to a place: a turn, or a mirror.
-fn place_from(g: usize, place: usize) -> usize
+pub fn place_from(g: usize, place: usize) -> usize
     requires { ⌜ place < 8 ⌝ }
     ensures { λ r. ⌜ (r ≡ placeFrom g place) × (r < 8) ⌝ }
 {

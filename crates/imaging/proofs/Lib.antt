@@ -1,0 +1,6 @@
+pub mod Bytes
+pub mod Assembled
+pub mod Making
+pub mod OnSets
+pub mod Least
+pub mod Picked

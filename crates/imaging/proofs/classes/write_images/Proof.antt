@@ -1,0 +1,91 @@
+-- `imaging::classes::write_images` meets its contract. The invariant: the images so far are written. Assumes nothing.
+use mathlib.Core.Path.{_≡_, refl, ap, _∙_}
+use Prim.Native.Nat.{_+_, _-_, _*_, _≤_}
+use native.Mathlib.Omega.{arith}
+use lib.ListN.{length, length-set}
+use Rattle.ranking.specs.Rank.{rank}
+use Rattle.board.specs.Board.{boardOf}
+use Rattle.imaging.specs.Images.{imagesWritten}
+use Rattle.imaging.proofs.OnSets.{image-rank, none-written, one-written}
+use borrow.Author.Needs.{needs}
+use Rattle.imaging.proofs.classes.write_images.Statement.{statement}
+use Rattle.imaging.proofs.classes.write_images.Tie as tie
+
+abbrev Inv-loop : tie.InvT-loop
+Inv-loop tablebase₀ binomials images rings maps start end position entry g₀ tablebase g =
+    (g ≤ maps) × (length tablebase ≡ length tablebase₀) × (tablebase ≡ imagesWritten rings start (boardOf (8 * rings) position) entry tablebase₀ g)
+
+abbrev μ-loop : tie.MeasureT-loop
+μ-loop tablebase₀ binomials images rings maps start end position entry g₀ tablebase g = maps - g
+
+loop-holds : tie.Need-loop-holds Inv-loop μ-loop
+loop-holds c =
+    let a = c .before .args in
+    (omega arith, refl, none-written (a .rings) (a .start) (boardOf (8 * a .rings) (a .position)) (a .entry) (a .tablebase .now))
+
+image-of-requires : tie.Need-image-of-requires Inv-loop μ-loop
+image-of-requires c κs = search needs
+
+mul-rank : tie.Need-mul-rank Inv-loop μ-loop
+mul-rank c = search needs
+
+rank-requires : tie.Need-rank-requires Inv-loop μ-loop
+rank-requires c κs = search needs
+
+write-entry-requires : tie.Need-write-entry-requires Inv-loop μ-loop
+write-entry-requires c κs =
+    let k = c .before in
+    let i = k .before in
+    let x = i .before .before in
+    let s = x .before .before in
+    let a = s .args in
+    let p = s .pre .1 .1 in
+    let t = i .before .loop-test .taken in
+    let e = image-rank (a .rings) (p .0) (x .loop .g) (omega (arith, p .1, t)) (a .position) (i .image-of .result) (p .2) (i .image-of .ensures .0) in
+    (omega (arith, e, p .4, k .rank .ensures), omega (arith, p .3, x .loop .inv .1))
+
+add-g : tie.Need-add-g Inv-loop μ-loop
+add-g c = search needs
+
+loop-less : tie.Need-loop-less Inv-loop μ-loop
+loop-less c = search needs
+
+loop-again : tie.Need-loop-again Inv-loop μ-loop
+loop-again c =
+    let k = c .before .before .before .before in
+    let i = k .before in
+    let x = i .before .before in
+    let s = x .before .before in
+    let a = s .args in
+    let w = c .before .before .write-entry .ensures in (
+      omega (arith, i .before .loop-test .taken),
+      ap length w ∙ length-set (x .loop .tablebase) (a .start + k .rank .result) (a .entry) ∙ x .loop .inv .1,
+      w ∙ one-written (a .rings) (a .start) (boardOf (8 * a .rings) (a .position)) (a .entry) (a .tablebase .now) (x .loop .g) (x .loop .tablebase) (x .loop .inv .2)
+          (k .rank .result) (k .rank .ensures ∙ ap rank (i .image-of .ensures .0)),
+    )
+
+same-length : tie.Need-same-length Inv-loop μ-loop
+same-length c = search needs
+
+returns : tie.Need-returns Inv-loop μ-loop
+returns c =
+    let x = c .before in
+    let a = x .before .before .args in
+    x .loop .inv .2 ∙ ap (imagesWritten (a .rings) (a .start) (boardOf (8 * a .rings) (a .position)) (a .entry) (a .tablebase .now)) (omega arith)
+
+pub write-images-spec : {M : Type 1} → statement M
+write-images-spec =
+    tie.close
+    (tie.spec
+    Inv-loop
+    μ-loop
+    loop-holds
+    image-of-requires
+    mul-rank
+    rank-requires
+    write-entry-requires
+    add-g
+    loop-less
+    loop-again
+    same-length
+    returns)

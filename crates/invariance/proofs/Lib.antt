@@ -1,0 +1,4 @@
+pub mod Groups
+pub mod WholeMaps
+pub mod PairMaps
+pub mod TrueSymmetric

@@ -1,0 +1,25 @@
+-- Which symmetries a fill goes by, and when the lower tables of a pair allow for them. Assumes nothing.
+use mathlib.Core.Path.{_≡_}
+use mathlib.Core.List.{List}
+use mathlib.Core.Logic.{_⊎_}
+use Prim.Native.Nat.{ℕ, _+_, _*_, _<_}
+use lib.ListN.{getD}
+use Rattle.sizes.specs.Size.{size}
+use Rattle.ranking.specs.Rank.{rank}
+use Rattle.ranking.specs.Unrank.{unrank}
+use Rattle.layout.specs.Layout.{start}
+use Rattle.outcomes.specs.Pair.{LowerTables}
+use Rattle.symmetry.specs.Symmetries.{symmetries, image}
+
+-- the first symmetry alone, which changes nothing; the first eight, which leave the rings as they are; or all
+abbrev pub Used : ℕ → Type 0
+Used maps = (maps ≡ 1) ⊎ ((maps ≡ 8) ⊎ (maps ≡ symmetries))
+
+-- table (x, y) has one entry for all images of a position
+abbrev pub TableSymmetric : ℕ → ℕ → ℕ → List ℕ → ℕ → ℕ → Type 0
+TableSymmetric maps rings k tablebase x y = (r g : ℕ) → r < size (8 * rings) x y → g < maps
+    → getD tablebase (start (8 * rings) k x y + rank (image rings g (unrank (8 * rings) x y r))) 0 ≡ getD tablebase (start (8 * rings) k x y + r) 0
+
+-- and so have the lower tables of a pair
+abbrev pub LowerSymmetric : ℕ → ℕ → ℕ → ℕ → ℕ → List ℕ → Type 0
+LowerSymmetric maps rings k m o tablebase = (x y : ℕ) → LowerTables m o x y → TableSymmetric maps rings k tablebase x y
