@@ -33,6 +33,9 @@ number b = setOf 1 b
 unfoldable pub isLeast : (List ℕ → ℕ) → ℕ → ℕ → List ℕ → Bool
 isLeast numbering rings maps b = all (λ g. leb (numbering b) (numbering (image rings g b))) (range 0 maps)
 
+abbrev pub leastOfClass : ℕ → ℕ → List ℕ → Bool
+leastOfClass rings maps b = isLeast (λ c. number c) rings maps b
+
 -- v at the places of the first n images of b, in the table that starts at a place
 unfoldable pub imagesWritten : ℕ → ℕ → List ℕ → ℕ → List ℕ → ℕ → List ℕ
 imagesWritten rings start b v tablebase zero = tablebase

@@ -5,7 +5,7 @@ ghost use lib.ListN.{length};
 ghost use Rattle.board.specs.Board.{count, boardOf, OnBoard};
 ghost use Rattle.sizes.specs.Size.{size};
 ghost use Rattle.sizes.specs.Binomial.{BinomialTable};
-ghost use Rattle.imaging.specs.Images.{RingImages, number, isLeast, imagesWritten};
+ghost use Rattle.imaging.specs.Images.{RingImages, leastOfClass, imagesWritten};
 use super::positions::image_of;
 use super::positions::image_set;
 
@@ -13,7 +13,7 @@ use super::positions::image_set;
 pub fn is_least(images: &[u8; 2048], rings: usize, maps: usize, position: board::Position) -> bool
     requires { ⌜ RingImages (now images) ⌝ }
     requires { ⌜ (rings ≤ 3) × (maps ≤ 16) × OnBoard (8 * rings) position ⌝ }
-    ensures { λ r. ⌜ r ≡ isLeast (λ b. number b) rings maps (boardOf (8 * rings) position) ⌝ }
+    ensures { λ r. ⌜ r ≡ leastOfClass rings maps (boardOf (8 * rings) position) ⌝ }
 {
     let own = position.mover;
     let mut g = 1;

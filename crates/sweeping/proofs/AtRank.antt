@@ -1,10 +1,8 @@
--- The position of a rank of a table: it is placed, stands for the board of that rank, and its successors can be read. And one place of a table at a
--- level, by the tests that the code makes. Assumes nothing.
-use mathlib.Core.Path.{_≡_, refl, sym, ap, ap₂, subst, _∙_}
+-- The position of a rank of a table: it is placed, stands for the board of that rank, and its successors can be read. Assumes nothing.
+use mathlib.Core.Path.{_≡_, sym, ap, ap₂, subst, _∙_}
 use mathlib.Core.Bool.{Bool, true, false}
 use mathlib.Core.List.{List}
-use Prim.Native.Nat.{ℕ, _+_, _*_, _≤_, _<_}
-use lib.ListN.{set}
+use Prim.Native.Nat.{ℕ, _*_, _≤_, _<_}
 use Rattle.board.specs.declared.position.Position.{Position}
 use Rattle.board.specs.Board.{positionOf, boardOf, count, OnBoard}
 use Rattle.board.proofs.Sides.{board-position, position-on}
@@ -16,7 +14,7 @@ use Rattle.game.specs.Judgement.{hit, decided}
 use Rattle.outcomes.specs.Whole.{next}
 use Rattle.probing.specs.Probes.{probe, Reads}
 use Rattle.sweeping.specs.declared.tables.Table.{Table}
-use Rattle.sweeping.specs.Levels.{Fits, isOpen, ranked, judged, sweptPlace, openDecided}
+use Rattle.sweeping.specs.Levels.{Fits, isOpen, ranked, judged, openDecided}
 
 pub record AtRank (n rings : ℕ) (t : Table) (same r : ℕ) (p : Position) : Type 0 where
   pub placed : Placed rings p
@@ -60,28 +58,6 @@ module _ (rings : ℕ) (t : Table) (same r : ℕ) (now : List ℕ) where
     pub decided-at : decided (next rings) (λ b. probe now same (t .lower .start) (count 2 (boardOf (8 * rings) p)) b) (boardOf (8 * rings) p)
         ≡ decided (next rings) (judged rings t same now) (ranked rings t same r)
     decided-at = ap₂ (λ (y : ℕ) (c : List ℕ). decided (next rings) (λ b. probe now same (t .lower .start) y b) c) (w .opponent-is) (w .board-is)
-
-  -- a place: passed over, hit, or missed
-  module _ (passes : ℕ → Bool) (level : ℕ) where
-    abbrev hits : Bool
-    hits = hit (next rings) (judged rings t same now) level (ranked rings t same r)
-
-    pub place-out : passes r ≡ false → now ≡ sweptPlace rings t same passes level now r
-    unfolding sweptPlace
-    place-out c = rw (c, sweptPlace)
-
-    pub place-hit : passes r ≡ true → isOpen t now r ≡ true → hits ≡ true → set now (t .own .start + r) level ≡ sweptPlace rings t same passes level now r
-    unfolding sweptPlace
-    place-hit c e h = rw (c, e, h, sweptPlace)
-
-    pub place-missed : hits ≡ false → now ≡ sweptPlace rings t same passes level now r
-    unfolding sweptPlace
-    place-missed h = go (passes r) refl (isOpen t now r) refl
-      where
-        go : (a : Bool) → passes r ≡ a → (b : Bool) → isOpen t now r ≡ b → now ≡ sweptPlace rings t same passes level now r
-        go true g true f = rw (g, f, h, sweptPlace)
-        go true g false f = rw (g, f, sweptPlace)
-        go false g b f = rw (g, sweptPlace)
 
   pub closed-undecided : isOpen t now r ≡ false → false ≡ openDecided rings t same now r
   unfolding openDecided

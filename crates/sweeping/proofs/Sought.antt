@@ -10,19 +10,22 @@ use lib.Dec.{eqb}
 use lib.ListN.{length, getD, set, length-set}
 use borrow.Author.Tests.{eq-eqb, ne-eqb, lt-ltb, le-ltb}
 use Rattle.board.specs.Board.{positionOf}
+use Rattle.sizes.specs.Size.{size}
 use Rattle.ranking.specs.Unrank.{unrank}
 use Rattle.rules.specs.Predecessors.{predecessors}
 use Rattle.game.specs.Game.{drawEntry, voidEntry}
 use Rattle.game.specs.Judgement.{hit}
 use Rattle.outcomes.specs.Whole.{next}
 use Rattle.parts.specs.Finding.{First}
+use Rattle.imaging.specs.Images.{imagesWritten}
 use Rattle.marking.specs.Marks.{marked, places}
+use Rattle.marking.proofs.Marks.{marked-length}
 use Rattle.sweeping.specs.declared.tables.Table.{Table}
 use Rattle.sweeping.specs.declared.cursor.Cursor.{Cursor}
 use Rattle.sweeping.specs.Cursors.{Stands}
 use Rattle.sweeping.specs.declared.marks.Source.{Source}
 use Rattle.sweeping.specs.Levels.{ranked, judged}
-use Rattle.sweeping.specs.Marked.{isSource, FirstRank, markedPlace, markedFrom, isMarked, judgedPlace, judgedFirst}
+use Rattle.sweeping.specs.Marked.{sameSource, lowerSource, isSource, FirstRank, goneBack, markedPlace, markedFrom, isMarked, judgedClass, judgedFirst, levelMarks, levelByClasses}
 
 -- a place found is a rank found
 first-rank : (v start r size j : ℕ) (l : List ℕ) → First v l (start + r) (start + size) j
@@ -75,72 +78,137 @@ passed-over : (F : ℕ → List ℕ) (now : List ℕ) (passes : ℕ → Bool) (f
 passed-over F now passes from end r w step e =
     le-ind (λ (k : ℕ). k ≤ r → F k ≡ now) (λ h. e) (λ k i f h. step k (f (omega arith)) (w .none k i (omega arith))) r (w .low) (omega arith)
 
-module _ (rings start : ℕ) (s : Source) (capture : Bool) (depth : ℕ) (tablebase : List ℕ) where
-  pub marked-none : tablebase ≡ markedFrom rings start s capture depth tablebase 0
-  unfolding markedFrom
-  marked-none = refl
+-- a position that is picked is gone back from, another is not
+module _ (rings start : ℕ) (capture : Bool) (picked : List ℕ → Bool) (b now : List ℕ) where
+  pub gone-picked : picked b ≡ true → marked (places start (predecessors capture rings b)) now ≡ goneBack rings start capture picked b now
+  unfolding goneBack
+  gone-picked e = rw (e, goneBack)
 
+  pub gone-passed : picked b ≡ false → now ≡ goneBack rings start capture picked b now
+  unfolding goneBack
+  gone-passed e = rw (e, goneBack)
+
+  gone-length : length (goneBack rings start capture picked b now) ≡ length now
+  unfolding goneBack
+  gone-length = go (picked b) refl
+    where
+      go : (c : Bool) → picked b ≡ c → length (goneBack rings start capture picked b now) ≡ length now
+      go true e = rw (e, goneBack) (marked-length (places start (predecessors capture rings b)) now)
+      go false e = rw (e, goneBack)
+
+module _ (rings start : ℕ) (s : Source) (capture : Bool) (depth : ℕ) (picked : List ℕ → Bool) where
   -- a position of the depth, as the code has it
   pub marked-place : (r : ℕ) (now : List ℕ) → isSource s depth now r ≡ true → (b : List ℕ) → b ≡ unrank (8 * rings) (s .mover) (s .opponent) r
-      → marked (places start (predecessors capture rings b)) now ≡ markedPlace rings start s capture depth now r
+      → goneBack rings start capture picked b now ≡ markedPlace rings start s capture depth picked now r
   unfolding markedPlace
   marked-place r now e b f = rw (e, f, markedPlace)
 
-  pub marked-step : (r : ℕ) (now : List ℕ) → now ≡ markedFrom rings start s capture depth tablebase r
-      → markedPlace rings start s capture depth now r ≡ markedFrom rings start s capture depth tablebase (r + 1)
-  unfolding markedFrom
-  marked-step r now e = rw (e, add-one r)
+  source-out : (r : ℕ) (now : List ℕ) → isSource s depth now r ≡ false → markedPlace rings start s capture depth picked now r ≡ now
+  unfolding markedPlace
+  source-out r now e = rw (e, markedPlace)
 
-  pub marked-over : (from end r : ℕ) (now : List ℕ) → FirstRank (isSource s depth now) from end r
-      → now ≡ markedFrom rings start s capture depth tablebase from → now ≡ markedFrom rings start s capture depth tablebase r
-  unfolding markedFrom markedPlace
-  marked-over from end r now w e =
-      sym (passed-over (λ i. markedFrom rings start s capture depth tablebase i) now (isSource s depth now) from end r w
-      (λ i f g. ap (λ (l : List ℕ). markedPlace rings start s capture depth l i) f ∙ out i g) (sym e))
+  pub place-length : (r : ℕ) (now : List ℕ) → length (markedPlace rings start s capture depth picked now r) ≡ length now
+  unfolding markedPlace
+  place-length r now = go (isSource s depth now r) refl
     where
-      out : (i : ℕ) → isSource s depth now i ≡ false → markedPlace rings start s capture depth now i ≡ now
-      out i g = rw (g, markedPlace)
+      go : (b : Bool) → isSource s depth now r ≡ b → length (markedPlace rings start s capture depth picked now r) ≡ length now
+      go true e = rw (e, markedPlace) (gone-length rings start capture picked (unrank (8 * rings) (s .mover) (s .opponent) r) now)
+      go false e = ap length (source-out r now e)
 
-module _ (rings : ℕ) (t : Table) (same level : ℕ) (tablebase : List ℕ) where
-  pub judged-none : tablebase ≡ judgedFirst rings t same level tablebase 0
-  unfolding judgedFirst
-  judged-none = refl
+  module _ (tablebase : List ℕ) where
+    pub from-none : tablebase ≡ markedFrom rings start s capture depth picked tablebase 0
+    unfolding markedFrom
+    from-none = refl
 
+    pub from-step : (r : ℕ) (now : List ℕ) → now ≡ markedFrom rings start s capture depth picked tablebase r
+        → markedPlace rings start s capture depth picked now r ≡ markedFrom rings start s capture depth picked tablebase (r + 1)
+    unfolding markedFrom
+    from-step r now e = rw (e, add-one r)
+
+    pub from-over : (from end r : ℕ) (now : List ℕ) → FirstRank (isSource s depth now) from end r
+        → now ≡ markedFrom rings start s capture depth picked tablebase from → now ≡ markedFrom rings start s capture depth picked tablebase r
+    unfolding markedFrom
+    from-over from end r now w e =
+        sym (passed-over (λ i. markedFrom rings start s capture depth picked tablebase i) now (isSource s depth now) from end r w
+        (λ i f g. ap (λ (l : List ℕ). markedPlace rings start s capture depth picked l i) f ∙ source-out i now g) (sym e))
+
+    pub from-length : (n : ℕ) → length (markedFrom rings start s capture depth picked tablebase n) ≡ length tablebase
+    unfolding markedFrom
+    from-length zero = refl
+    from-length (suc n) = place-length n (markedFrom rings start s capture depth picked tablebase n) ∙ from-length n
+
+pub images-length : (rings start : ℕ) (b : List ℕ) (v : ℕ) (now : List ℕ) (n : ℕ) → length (imagesWritten rings start b v now n) ≡ length now
+unfolding imagesWritten
+images-length rings start b v now zero = refl
+images-length rings start b v now (suc n) = length-set (imagesWritten rings start b v now n) _ v ∙ images-length rings start b v now n
+
+module _ (rings : ℕ) (t : Table) (same level maps : ℕ) where
   -- a marked position, as the code judges it
-  pub judged-at : (r : ℕ) (now : List ℕ) → isMarked t now r ≡ true → (v : ℕ)
-      → v ≡ elim (hit (next rings) (judged rings t same now) level (ranked rings t same r)) [ true ↦ level | false ↦ drawEntry ]
-      → set now (t .own .start + r) v ≡ judgedPlace rings t same level now r
-  unfolding judgedPlace
-  judged-at r now e v f = rw (e, judgedPlace) (ap (set now (t .own .start + r)) f)
+  pub judged-hit : (r : ℕ) (now : List ℕ) → isMarked t now r ≡ true → hit (next rings) (judged rings t same now) level (ranked rings t same r) ≡ true
+      → (b : List ℕ) → b ≡ ranked rings t same r → imagesWritten rings (t .own .start) b level now maps ≡ judgedClass rings t same level maps now r
+  unfolding judgedClass
+  judged-hit r now e h b f = rw (e, h, f, judgedClass)
 
-  judged-out : (r : ℕ) (now : List ℕ) → isMarked t now r ≡ false → judgedPlace rings t same level now r ≡ now
-  unfolding judgedPlace
-  judged-out r now g = rw (g, judgedPlace)
+  pub judged-miss : (r : ℕ) (now : List ℕ) → isMarked t now r ≡ true → hit (next rings) (judged rings t same now) level (ranked rings t same r) ≡ false
+      → set now (t .own .start + r) drawEntry ≡ judgedClass rings t same level maps now r
+  unfolding judgedClass
+  judged-miss r now e h = rw (e, h, judgedClass)
 
-  pub judged-length : (r : ℕ) (now : List ℕ) → length (judgedPlace rings t same level now r) ≡ length now
-  unfolding judgedPlace
-  judged-length r now = go (isMarked t now r) refl
+  judged-out : (r : ℕ) (now : List ℕ) → isMarked t now r ≡ false → judgedClass rings t same level maps now r ≡ now
+  unfolding judgedClass
+  judged-out r now g = rw (g, judgedClass)
+
+  pub judged-length : (r : ℕ) (now : List ℕ) → length (judgedClass rings t same level maps now r) ≡ length now
+  unfolding judgedClass
+  judged-length r now = go (isMarked t now r) refl (hit (next rings) (judged rings t same now) level (ranked rings t same r)) refl
     where
-      go : (b : Bool) → isMarked t now r ≡ b → length (judgedPlace rings t same level now r) ≡ length now
-      go true e = rw (e, judgedPlace) (length-set now (t .own .start + r) _)
-      go false e = ap length (judged-out r now e)
+      go : (b : Bool) → isMarked t now r ≡ b → (c : Bool) → hit (next rings) (judged rings t same now) level (ranked rings t same r) ≡ c
+          → length (judgedClass rings t same level maps now r) ≡ length now
+      go true e true f = rw (e, f, judgedClass) (images-length rings (t .own .start) (ranked rings t same r) level now maps)
+      go true e false f = rw (e, f, judgedClass) (length-set now (t .own .start + r) drawEntry)
+      go false e c f = ap length (judged-out r now e)
 
-  pub judged-lengths : (n : ℕ) → length (judgedFirst rings t same level tablebase n) ≡ length tablebase
-  unfolding judgedFirst
-  judged-lengths zero = refl
-  judged-lengths (suc n) = judged-length n (judgedFirst rings t same level tablebase n) ∙ judged-lengths n
+  module _ (tablebase : List ℕ) where
+    pub judged-none : tablebase ≡ judgedFirst rings t same level maps tablebase 0
+    unfolding judgedFirst
+    judged-none = refl
 
-  pub judged-step : (r : ℕ) (now : List ℕ) → now ≡ judgedFirst rings t same level tablebase r
-      → judgedPlace rings t same level now r ≡ judgedFirst rings t same level tablebase (r + 1)
-  unfolding judgedFirst
-  judged-step r now e = rw (e, add-one r)
+    pub judged-step : (r : ℕ) (now : List ℕ) → now ≡ judgedFirst rings t same level maps tablebase r
+        → judgedClass rings t same level maps now r ≡ judgedFirst rings t same level maps tablebase (r + 1)
+    unfolding judgedFirst
+    judged-step r now e = rw (e, add-one r)
 
-  pub judged-over : (from end r : ℕ) (now : List ℕ) → FirstRank (isMarked t now) from end r → now ≡ judgedFirst rings t same level tablebase from
-      → now ≡ judgedFirst rings t same level tablebase r
-  unfolding judgedFirst
-  judged-over from end r now w e =
-      sym (passed-over (λ i. judgedFirst rings t same level tablebase i) now (isMarked t now) from end r w
-      (λ i f g. ap (λ (l : List ℕ). judgedPlace rings t same level l i) f ∙ judged-out i now g) (sym e))
+    pub judged-over : (from end r : ℕ) (now : List ℕ) → FirstRank (isMarked t now) from end r → now ≡ judgedFirst rings t same level maps tablebase from
+        → now ≡ judgedFirst rings t same level maps tablebase r
+    unfolding judgedFirst
+    judged-over from end r now w e =
+        sym (passed-over (λ i. judgedFirst rings t same level maps tablebase i) now (isMarked t now) from end r w
+        (λ i f g. ap (λ (l : List ℕ). judgedClass rings t same level maps l i) f ∙ judged-out i now g) (sym e))
+
+    judged-lengths : (n : ℕ) → length (judgedFirst rings t same level maps tablebase n) ≡ length tablebase
+    unfolding judgedFirst
+    judged-lengths zero = refl
+    judged-lengths (suc n) = judged-length n (judgedFirst rings t same level maps tablebase n) ∙ judged-lengths n
+
+  module _ (picked : List ℕ → Bool) (now : List ℕ) where
+    -- the steps of a level, as the code takes them
+    pub level-is : (once twice last : List ℕ)
+        → once ≡ markedFrom rings (t .own .start) (sameSource t same) false (level - 1) picked now (size (8 * rings) (t .opponent) (t .mover))
+        → twice ≡ markedFrom rings (t .own .start) (lowerSource t) true (level - 1) picked once (size (8 * rings) (t .opponent - 1) (t .mover))
+        → last ≡ judgedFirst rings t same level maps twice (size (8 * rings) (t .mover) (t .opponent)) → last ≡ levelByClasses rings t same level maps picked now
+    unfolding levelByClasses levelMarks
+    level-is once twice last e f g =
+        g ∙ ap (λ (l : List ℕ). judgedFirst rings t same level maps l (size (8 * rings) (t .mover) (t .opponent)))
+        (f ∙ ap (λ (l : List ℕ). markedFrom rings (t .own .start) (lowerSource t) true (level - 1) picked l (size (8 * rings) (t .opponent - 1) (t .mover))) e)
+
+    pub level-length : length (levelByClasses rings t same level maps picked now) ≡ length now
+    unfolding levelByClasses levelMarks
+    level-length =
+        judged-lengths (levelMarks rings t same level maps picked now) (size (8 * rings) (t .mover) (t .opponent))
+        ∙ from-length rings (t .own .start) (lowerSource t) true (level - 1) picked
+        (markedFrom rings (t .own .start) (sameSource t same) false (level - 1) picked now (size (8 * rings) (t .opponent) (t .mover)))
+        (size (8 * rings) (t .opponent - 1) (t .mover))
+        ∙ from-length rings (t .own .start) (sameSource t same) false (level - 1) picked now (size (8 * rings) (t .opponent) (t .mover))
 
 -- a cursor at a rank stands there
 pub stands-at : (rings m o n r : ℕ) (c : Cursor) → c .rank ≡ r → c .position ≡ positionOf (unrank (8 * rings) m o r) → Stands rings m o n c

@@ -1,4 +1,4 @@
--- One level over a table, in place, as a function of the tablebase. Assumes nothing.
+-- Level 0 over a table, in place, as a function of the tablebase, and what is asked of open positions. Assumes nothing.
 use mathlib.Core.Path.{_≡_}
 use mathlib.Core.Bool.{Bool, true, false, _&&_}
 use mathlib.Core.List.{List}
@@ -9,7 +9,7 @@ use Rattle.lists.specs.Lists.{isEmpty}
 use Rattle.sizes.specs.Size.{size}
 use Rattle.ranking.specs.Unrank.{unrank}
 use Rattle.game.specs.Game.{drawEntry}
-use Rattle.game.specs.Judgement.{hit, decided}
+use Rattle.game.specs.Judgement.{decided}
 use Rattle.outcomes.specs.Whole.{next}
 use Rattle.probing.specs.Probes.{probe, Reads}
 use Rattle.marking.specs.Stones.{Room}
@@ -49,18 +49,6 @@ module _ (rings : ℕ) (t : Table) (same : ℕ) where
 
   abbrev pub judged : List ℕ → List ℕ → ℕ
   judged tablebase b = probe tablebase same (t .lower .start) (t .opponent) b
-
-  -- of the positions whose ranks pass a test, an open one that the level hits gets it
-  unfoldable pub sweptPlace : (ℕ → Bool) → ℕ → List ℕ → ℕ → List ℕ
-  sweptPlace passes level tablebase r = elim (passes r && (isOpen t tablebase r && hit (next rings) (judged tablebase) level (ranked r))) [
-    | true ↦ set tablebase (t .own .start + r) level
-    | false ↦ tablebase
-  ]
-
-  -- the first n positions
-  unfoldable pub swept : (ℕ → Bool) → ℕ → List ℕ → ℕ → List ℕ
-  swept passes level tablebase zero = tablebase
-  swept passes level tablebase (suc n) = sweptPlace passes level (swept passes level tablebase n) n
 
   -- an open position that its successors decide
   unfoldable pub openDecided : List ℕ → ℕ → Bool

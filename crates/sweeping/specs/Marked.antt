@@ -1,5 +1,5 @@
--- One level by marks, as a function of the tablebase: the open positions before those of the depth below are marked, then each marked position gets
--- the level, or is open again. Assumes nothing.
+-- One level by marks and classes, as a function of the tablebase: the open positions before the picked ones of the depth below are marked, then each
+-- marked position is judged; where it has the level all its images get it, else it is open again. Assumes nothing.
 use mathlib.Core.Path.{_≡_}
 use mathlib.Core.Bool.{Bool, true, false}
 use mathlib.Core.List.{List}
@@ -13,6 +13,7 @@ use Rattle.rules.specs.Predecessors.{predecessors}
 use Rattle.game.specs.Game.{drawEntry, voidEntry}
 use Rattle.game.specs.Judgement.{hit}
 use Rattle.outcomes.specs.Whole.{next}
+use Rattle.imaging.specs.Images.{imagesWritten}
 use Rattle.marking.specs.Marks.{marked, places}
 use Rattle.sweeping.specs.declared.tables.Table.{Table}
 use Rattle.sweeping.specs.declared.marks.Source.{Source}
@@ -45,15 +46,22 @@ pub record FirstRank (passes : ℕ → Bool) (from end r : ℕ) : Type 0 where
   pub none : (i : ℕ) → from ≤ i → i < r → passes i ≡ false
   pub here : r < end → passes r ≡ true
 
-module _ (rings start : ℕ) (s : Source) (capture : Bool) (depth : ℕ) where
-  -- in the table that starts at a place, the positions before that of rank r are marked, if it has the depth
+-- the positions before b are marked in the table that starts at a place, if b is picked
+unfoldable pub goneBack : ℕ → ℕ → Bool → (List ℕ → Bool) → List ℕ → List ℕ → List ℕ
+goneBack rings start capture picked b tablebase = elim (picked b) [
+  | true ↦ marked (places start (predecessors capture rings b)) tablebase
+  | false ↦ tablebase
+]
+
+module _ (rings start : ℕ) (s : Source) (capture : Bool) (depth : ℕ) (picked : List ℕ → Bool) where
+  -- the position of rank r is gone back from, if it has the depth
   unfoldable pub markedPlace : List ℕ → ℕ → List ℕ
   markedPlace tablebase r = elim (isSource s depth tablebase r) [
-    | true ↦ marked (places start (predecessors capture rings (unrank (8 * rings) (s .mover) (s .opponent) r))) tablebase
+    | true ↦ goneBack rings start capture picked (unrank (8 * rings) (s .mover) (s .opponent) r) tablebase
     | false ↦ tablebase
   ]
 
-  -- for the first n positions of s
+  -- and so are the first n positions of s
   unfoldable pub markedFrom : List ℕ → ℕ → List ℕ
   markedFrom tablebase zero = tablebase
   markedFrom tablebase (suc n) = markedPlace (markedFrom tablebase n) n
@@ -62,26 +70,29 @@ module _ (rings start : ℕ) (s : Source) (capture : Bool) (depth : ℕ) where
 unfoldable pub isMarked : Table → List ℕ → ℕ → Bool
 isMarked t tablebase r = eqb (getD tablebase (t .own .start + r) 0) voidEntry
 
-module _ (rings : ℕ) (t : Table) (same level : ℕ) where
-  -- a marked position gets the level where it is hit, and is open again where it is not
-  unfoldable pub judgedPlace : List ℕ → ℕ → List ℕ
-  judgedPlace tablebase r = elim (isMarked t tablebase r) [
-    | true ↦ set tablebase (t .own .start + r)
-        (elim (hit (next rings) (judged rings t same tablebase) level (ranked rings t same r)) [ true ↦ level | false ↦ drawEntry ])
+module _ (rings : ℕ) (t : Table) (same level maps : ℕ) where
+  -- a marked position that is hit gets the level, with all its images; one that is not is open again
+  unfoldable pub judgedClass : List ℕ → ℕ → List ℕ
+  judgedClass tablebase r = elim (isMarked t tablebase r) [
+    | true ↦ elim (hit (next rings) (judged rings t same tablebase) level (ranked rings t same r)) [
+      | true ↦ imagesWritten rings (t .own .start) (ranked rings t same r) level tablebase maps
+      | false ↦ set tablebase (t .own .start + r) drawEntry
+    ]
     | false ↦ tablebase
   ]
 
   -- the first n positions
   unfoldable pub judgedFirst : List ℕ → ℕ → List ℕ
   judgedFirst tablebase zero = tablebase
-  judgedFirst tablebase (suc n) = judgedPlace (judgedFirst tablebase n) n
+  judgedFirst tablebase (suc n) = judgedClass (judgedFirst tablebase n) n
 
-  -- the marks of a level above 0
-  unfoldable pub levelMarks : List ℕ → List ℕ
-  levelMarks tablebase = markedFrom rings (t .own .start) (lowerSource t) true (level - 1)
-      (markedFrom rings (t .own .start) (sameSource t same) false (level - 1) tablebase (size (8 * rings) (t .opponent) (t .mover)))
-      (size (8 * rings) (t .opponent - 1) (t .mover))
+  module _ (picked : List ℕ → Bool) where
+    -- the marks of a level above 0
+    unfoldable pub levelMarks : List ℕ → List ℕ
+    levelMarks tablebase = markedFrom rings (t .own .start) (lowerSource t) true (level - 1) picked
+        (markedFrom rings (t .own .start) (sameSource t same) false (level - 1) picked tablebase (size (8 * rings) (t .opponent) (t .mover)))
+        (size (8 * rings) (t .opponent - 1) (t .mover))
 
-  -- the level
-  unfoldable pub levelled : List ℕ → List ℕ
-  levelled tablebase = judgedFirst (levelMarks tablebase) (size (8 * rings) (t .mover) (t .opponent))
+    -- the level
+    unfoldable pub levelByClasses : List ℕ → List ℕ
+    levelByClasses tablebase = judgedFirst (levelMarks tablebase) (size (8 * rings) (t .mover) (t .opponent))

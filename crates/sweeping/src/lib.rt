@@ -1,14 +1,16 @@
 // One level of the solver over one table of a tablebase, in place; and where the tables lie.
+mod classes;
 mod cursor;
+mod judging;
 mod levels;
 mod marks;
 mod successors;
 mod tables;
 
+pub use classes::level_table;
 pub use levels::some_decided;
 pub use levels::sweep_blocked;
 pub use marks::Source;
-pub use marks::level_table;
 pub use successors::Starts;
 pub use successors::starts_of;
 pub use tables::Part;

@@ -1,6 +1,6 @@
 // Where a table and the table below it lie in a tablebase.
 ghost use mathlib.Core.Path.{_≡_};
-ghost use Prim.Native.Nat.{_≤_, _<_};
+ghost use Prim.Native.Nat.{_≤_};
 ghost use Rattle.sizes.specs.Binomial.{BinomialTable};
 ghost use Rattle.layout.specs.Layout.{start, end};
 ghost use Rattle.sweeping.specs.Tables.{lowerStart, lowerEnd, Located};

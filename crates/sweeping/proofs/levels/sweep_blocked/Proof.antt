@@ -8,7 +8,7 @@ use Rattle.sizes.specs.Size.{size}
 use Rattle.sweeping.specs.Cursors.{Stands}
 use Rattle.sweeping.specs.Levels.{Lies, blockedFirst}
 use Rattle.sweeping.proofs.Sought.{stands-at}
-use Rattle.sweeping.proofs.LevelZero.{blocked-length, blocked-none, blocked-more}
+use Rattle.sweeping.proofs.Blocked.{blocked-length, blocked-none, blocked-more}
 use Rattle.sweeping.proofs.levels.sweep_blocked.Statement.{statement}
 use Rattle.sweeping.proofs.levels.sweep_blocked.Tie as tie
 

@@ -9,7 +9,7 @@ use Rattle.rules.specs.Ply.{listedMoves}
 use Rattle.plies.specs.Positions.{Placed}
 use Rattle.outcomes.specs.Whole.{next}
 use Rattle.sweeping.proofs.AtRank.{placed-at}
-use Rattle.sweeping.proofs.LevelZero.{no-successor, place-closed, place-blocked, place-free}
+use Rattle.sweeping.proofs.Blocked.{no-successor, place-closed, place-blocked, place-free}
 use borrow.Author.Needs.{needs}
 use Rattle.sweeping.proofs.levels.sweep_place.Statement.{statement}
 use Rattle.sweeping.proofs.levels.sweep_place.Tie as tie

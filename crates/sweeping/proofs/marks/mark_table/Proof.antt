@@ -9,24 +9,24 @@ use Rattle.board.specs.Board.{boardOf}
 use Rattle.sizes.specs.Size.{size}
 use Rattle.ranking.specs.Unrank.{unrank}
 use Rattle.plies.specs.Positions.{Placed}
-use Rattle.marking.proofs.Marks.{marked-length}
+use Rattle.imaging.specs.Images.{leastOfClass}
 use Rattle.sweeping.specs.Cursors.{Stands}
 use Rattle.sweeping.specs.Levels.{Lies}
 use Rattle.sweeping.specs.Marked.{Stored, isSource, markedFrom}
 use Rattle.sweeping.proofs.AtRank.{placed-at}
 use Rattle.sweeping.proofs.Sources.{room-before}
-use Rattle.sweeping.proofs.Sought.{marked-none, marked-place, marked-step, marked-over, stands-at}
+use Rattle.sweeping.proofs.Sought.{marked-place, place-length, from-none, from-step, from-over, stands-at}
 use Rattle.sweeping.proofs.marks.mark_table.Statement.{statement}
 use Rattle.sweeping.proofs.marks.mark_table.Tie as tie
 
 abbrev Inv-loop : tie.InvT-loop
-Inv-loop tablebase₀ binomials near mills rings source capture depth own n at₀ r₀ tablebase at r =
+Inv-loop tablebase₀ binomials near mills images rings maps source capture depth own n at₀ r₀ tablebase at r =
     (n ≡ size (8 * rings) (source .mover) (source .opponent)) × (r ≤ n) × (length tablebase ≡ length tablebase₀)
-    × (tablebase ≡ markedFrom rings (own .start) source capture depth tablebase₀ r) × (r < n → isSource source depth tablebase r ≡ true)
+    × (tablebase ≡ markedFrom rings (own .start) source capture depth (leastOfClass rings maps) tablebase₀ r) × (r < n → isSource source depth tablebase r ≡ true)
     × Stands rings (source .mover) (source .opponent) n at
 
 abbrev μ-loop : tie.MeasureT-loop
-μ-loop tablebase₀ binomials near mills rings source capture depth own n at₀ r₀ tablebase at r = n - r
+μ-loop tablebase₀ binomials near mills images rings maps source capture depth own n at₀ r₀ tablebase at r = n - r
 
 -- the entry of the function, seen from the loop
 abbrev entered : tie.At-loop Inv-loop μ-loop → tie.Start Inv-loop μ-loop
@@ -67,8 +67,8 @@ loop-holds c =
       c .before .before .before .size .ensures,
       c .find-source .ensures .high,
       refl,
-      marked-over (a .rings) (a .table .own .start) (a .source) (a .capture) (a .depth) (a .tablebase .now) 0 _ (c .find-source .result) (a .tablebase .now)
-          (c .find-source .ensures) (marked-none (a .rings) (a .table .own .start) (a .source) (a .capture) (a .depth) (a .tablebase .now)),
+      from-over (a .rings) (a .table .own .start) (a .source) (a .capture) (a .depth) (leastOfClass (a .rings) (a .maps)) (a .tablebase .now) 0 _ (c .find-source .result) (a .tablebase .now)
+          (c .find-source .ensures) (from-none (a .rings) (a .table .own .start) (a .source) (a .capture) (a .depth) (leastOfClass (a .rings) (a .maps)) (a .tablebase .now)),
       c .find-source .ensures .here,
       λ h. absurd (omega (arith, c .before .before .nowhere .ensures)),
     )
@@ -79,8 +79,8 @@ seek-requires c κs =
     let s = entered x in
     (s .pre .0, ((s .pre .1 .1 .1 .0, omega (arith, c .loop-test .taken, x .loop .inv .0)), λ h. x .loop .inv .5 (omega (arith, c .loop-test .taken))))
 
-mark-before-requires : tie.Need-mark-before-requires Inv-loop μ-loop
-mark-before-requires c κs =
+mark-source-requires : tie.Need-mark-source-requires Inv-loop μ-loop
+mark-source-requires c κs =
     let x = c .before .before .before in
     let s = entered x in
     let a = s .args in
@@ -92,10 +92,13 @@ mark-before-requires c κs =
         (
           s .pre .1 .1 .0,
           (
-            w .0,
-            room-before (a .rings) (length (x .loop .tablebase)) (a .table) (a .source) (a .capture) (p .2)
+            (p .7, p .8),
+            (
+              w .0,
+              room-before (a .rings) (length (x .loop .tablebase)) (a .table) (a .source) (a .capture) (p .2)
                 (subst (λ (n : ℕ). Lies (8 * a .rings) (a .table) n) (sym (x .loop .inv .2)) (p .1)) (x .loop .r)
                 (omega (arith, c .before .before .loop-test .taken, x .loop .inv .0)) _ (w .1),
+            ),
           ),
         ),
       ),
@@ -105,21 +108,23 @@ add-find-source : tie.Need-add-find-source Inv-loop μ-loop
 add-find-source c = omega (arith, c .before .before .before .before .before .before .loop-test .taken)
 
 -- the positions before this one are marked
-stepped : (c : tie.After-mark-before Inv-loop μ-loop)
-    → (length (c .mark-before .last .0) ≡ length (c .before .before .before .before .loop .tablebase))
-    × (c .mark-before .last .0 ≡ markedFrom (entered (c .before .before .before .before) .args .rings)
+stepped : (c : tie.After-mark-source Inv-loop μ-loop)
+    → (length (c .mark-source .last .0) ≡ length (c .before .before .before .before .loop .tablebase))
+    × (c .mark-source .last .0 ≡ markedFrom (entered (c .before .before .before .before) .args .rings)
     (entered (c .before .before .before .before) .args .table .own .start) (entered (c .before .before .before .before) .args .source)
     (entered (c .before .before .before .before) .args .capture) (entered (c .before .before .before .before) .args .depth)
+    (leastOfClass (entered (c .before .before .before .before) .args .rings) (entered (c .before .before .before .before) .args .maps))
     (entered (c .before .before .before .before) .args .tablebase .now) (c .before .before .before .before .loop .r + 1))
 stepped c =
     let k = c .before .before in
     let x = k .before .before in
     let a = entered x .args in
-    let e = c .mark-before .ensures in (
-      ap length e ∙ marked-length _ (x .loop .tablebase),
-      e ∙ marked-place (a .rings) (a .table .own .start) (a .source) (a .capture) (a .depth) (a .tablebase .now) (x .loop .r) (x .loop .tablebase)
-          (x .loop .inv .4 (k .before .loop-test .taken)) _ (found k .1)
-          ∙ marked-step (a .rings) (a .table .own .start) (a .source) (a .capture) (a .depth) (a .tablebase .now) (x .loop .r) (x .loop .tablebase) (x .loop .inv .3),
+    let e = c .mark-source .ensures
+    ∙ marked-place (a .rings) (a .table .own .start) (a .source) (a .capture) (a .depth) (leastOfClass (a .rings) (a .maps)) (x .loop .r) (x .loop .tablebase)
+    (x .loop .inv .4 (k .before .loop-test .taken)) _ (found k .1) in (
+      ap length e ∙ place-length (a .rings) (a .table .own .start) (a .source) (a .capture) (a .depth) (leastOfClass (a .rings) (a .maps)) (x .loop .r) (x .loop .tablebase),
+      e ∙ from-step (a .rings) (a .table .own .start) (a .source) (a .capture) (a .depth) (leastOfClass (a .rings) (a .maps)) (a .tablebase .now) (x .loop .r)
+          (x .loop .tablebase) (x .loop .inv .3),
     )
 
 find-source-requires-2 : tie.Need-find-source-requires-2 Inv-loop μ-loop
@@ -146,8 +151,8 @@ loop-again c =
       x .loop .inv .0,
       c .find-source2 .ensures .high,
       stepped d .0 ∙ x .loop .inv .2,
-      marked-over (a .rings) (a .table .own .start) (a .source) (a .capture) (a .depth) (a .tablebase .now) (x .loop .r + 1) _ (c .find-source2 .result)
-          (d .mark-before .last .0) (c .find-source2 .ensures) (stepped d .1),
+      from-over (a .rings) (a .table .own .start) (a .source) (a .capture) (a .depth) (leastOfClass (a .rings) (a .maps)) (a .tablebase .now) (x .loop .r + 1) _ (c .find-source2 .result)
+          (d .mark-source .last .0) (c .find-source2 .ensures) (stepped d .1),
       c .find-source2 .ensures .here,
       stands-at (a .rings) (a .source .mover) (a .source .opponent) _ (x .loop .r) (k .seek .result) (k .seek .ensures .0) (k .seek .ensures .1),
     )
@@ -160,7 +165,7 @@ returns c =
     let x = c .before in
     let a = entered x .args in
     let e : x .loop .r ≡ size (8 * a .rings) (a .source .mover) (a .source .opponent) = omega (arith, c .loop-test .left, x .loop .inv .0, x .loop .inv .1) in
-    x .loop .inv .3 ∙ ap (markedFrom (a .rings) (a .table .own .start) (a .source) (a .capture) (a .depth) (a .tablebase .now)) e
+    x .loop .inv .3 ∙ ap (markedFrom (a .rings) (a .table .own .start) (a .source) (a .capture) (a .depth) (leastOfClass (a .rings) (a .maps)) (a .tablebase .now)) e
 
 pub mark-table-spec : {M : Type 1} → statement M
 mark-table-spec =
@@ -174,7 +179,7 @@ mark-table-spec =
     find-source-requires
     loop-holds
     seek-requires
-    mark-before-requires
+    mark-source-requires
     add-find-source
     find-source-requires-2
     loop-less

@@ -1,4 +1,4 @@
--- `sweeping::marks::judge_marked` meets its contract. The invariant: the places passed are judged, and the rank to come is marked. Assumes nothing.
+-- `sweeping::judging::judge_marked` meets its contract. The invariant: the places passed are judged, and the rank to come is marked. Assumes nothing.
 use mathlib.Core.Path.{_≡_, refl, sym, ap, subst, _∙_}
 use mathlib.Core.Bool.{true}
 use Prim.Native.Nat.{ℕ, _≤_, _<_, _-_, _+_, _*_}
@@ -7,19 +7,20 @@ use lib.ListN.{length}
 use Rattle.sizes.specs.Size.{size}
 use Rattle.sweeping.specs.Cursors.{Stands}
 use Rattle.sweeping.specs.Levels.{Fits}
-use Rattle.sweeping.specs.Marked.{isMarked, judgedFirst}
+use Rattle.sweeping.specs.Marked.{isMarked}
+use Rattle.sweeping.specs.Marked.{judgedFirst}
 use Rattle.sweeping.proofs.Sought.{judged-none, judged-length, judged-step, judged-over, stands-at}
-use Rattle.sweeping.proofs.marks.judge_marked.Statement.{statement}
-use Rattle.sweeping.proofs.marks.judge_marked.Tie as tie
+use Rattle.sweeping.proofs.judging.judge_marked.Statement.{statement}
+use Rattle.sweeping.proofs.judging.judge_marked.Tie as tie
 
 abbrev Inv-loop : tie.InvT-loop
-Inv-loop tablebase₀ binomials near mills rings table same level n at₀ r₀ tablebase at r =
+Inv-loop tablebase₀ binomials near mills images rings maps table same level n at₀ r₀ tablebase at r =
     (n ≡ size (8 * rings) (table .mover) (table .opponent)) × (r ≤ n) × (length tablebase ≡ length tablebase₀)
-    × (tablebase ≡ judgedFirst rings table same level tablebase₀ r) × (r < n → isMarked table tablebase r ≡ true)
+    × (tablebase ≡ judgedFirst rings table same level maps tablebase₀ r) × (r < n → isMarked table tablebase r ≡ true)
     × Stands rings (table .mover) (table .opponent) n at
 
 abbrev μ-loop : tie.MeasureT-loop
-μ-loop tablebase₀ binomials near mills rings table same level n at₀ r₀ tablebase at r = n - r
+μ-loop tablebase₀ binomials near mills images rings maps table same level n at₀ r₀ tablebase at r = n - r
 
 -- the entry of the function, seen from the loop
 abbrev entered : tie.At-loop Inv-loop μ-loop → tie.Start Inv-loop μ-loop
@@ -43,8 +44,8 @@ loop-holds c =
       omega (arith, s .pre .1 .1 .1 .0 .end-is),
       c .find-mark .ensures .high,
       refl,
-      judged-over (a .rings) (a .table) (a .same) (a .level) (a .tablebase .now) 0 _ (c .find-mark .result) (a .tablebase .now) (c .find-mark .ensures)
-          (judged-none (a .rings) (a .table) (a .same) (a .level) (a .tablebase .now)),
+      judged-over (a .rings) (a .table) (a .same) (a .level) (a .maps) (a .tablebase .now) 0 _ (c .find-mark .result) (a .tablebase .now) (c .find-mark .ensures)
+          (judged-none (a .rings) (a .table) (a .same) (a .level) (a .maps) (a .tablebase .now)),
       c .find-mark .ensures .here,
       λ h. absurd (omega (arith, c .before .before .nowhere .ensures)),
     )
@@ -67,12 +68,16 @@ judge-place-requires c κs =
         (
           s .pre .1 .1 .0,
           (
+            f .2,
             (
-              subst (λ (n : ℕ). Fits n (a .rings) (a .table) (a .same)) (sym (x .loop .inv .2)) (f .0),
-              omega (arith, c .before .before .loop-test .taken, x .loop .inv .0),
-              f .1,
+              (
+                subst (λ (n : ℕ). Fits n (a .rings) (a .table) (a .same)) (sym (x .loop .inv .2)) (f .0),
+                omega (arith, c .before .before .loop-test .taken, x .loop .inv .0),
+                f .1,
+                f .3,
+              ),
+              (c .before .seek .ensures .1, x .loop .inv .4 (c .before .before .loop-test .taken)),
             ),
-            (c .before .seek .ensures .1, x .loop .inv .4 (c .before .before .loop-test .taken)),
           ),
         ),
       ),
@@ -86,14 +91,14 @@ stepped : (c : tie.After-judge-place Inv-loop μ-loop)
     → (length (c .judge-place .last .0) ≡ length (c .before .before .before .before .loop .tablebase))
     × (c .judge-place .last .0 ≡ judgedFirst (entered (c .before .before .before .before) .args .rings)
     (entered (c .before .before .before .before) .args .table) (entered (c .before .before .before .before) .args .same)
-    (entered (c .before .before .before .before) .args .level) (entered (c .before .before .before .before) .args .tablebase .now)
+    (entered (c .before .before .before .before) .args .level) (entered (c .before .before .before .before) .args .maps) (entered (c .before .before .before .before) .args .tablebase .now)
     (c .before .before .before .before .loop .r + 1))
 stepped c =
     let x = c .before .before .before .before in
     let a = entered x .args in
     let e = c .judge-place .ensures in (
-      ap length e ∙ judged-length (a .rings) (a .table) (a .same) (a .level) (a .tablebase .now) (x .loop .r) (x .loop .tablebase),
-      e ∙ judged-step (a .rings) (a .table) (a .same) (a .level) (a .tablebase .now) (x .loop .r) (x .loop .tablebase) (x .loop .inv .3),
+      ap length e ∙ judged-length (a .rings) (a .table) (a .same) (a .level) (a .maps) (x .loop .r) (x .loop .tablebase),
+      e ∙ judged-step (a .rings) (a .table) (a .same) (a .level) (a .maps) (a .tablebase .now) (x .loop .r) (x .loop .tablebase) (x .loop .inv .3),
     )
 
 find-mark-requires-2 : tie.Need-find-mark-requires-2 Inv-loop μ-loop
@@ -119,7 +124,7 @@ loop-again c =
       x .loop .inv .0,
       c .find-mark2 .ensures .high,
       stepped d .0 ∙ x .loop .inv .2,
-      judged-over (a .rings) (a .table) (a .same) (a .level) (a .tablebase .now) (x .loop .r + 1) _ (c .find-mark2 .result) (d .judge-place .last .0)
+      judged-over (a .rings) (a .table) (a .same) (a .level) (a .maps) (a .tablebase .now) (x .loop .r + 1) _ (c .find-mark2 .result) (d .judge-place .last .0)
           (c .find-mark2 .ensures) (stepped d .1),
       c .find-mark2 .ensures .here,
       stands-at (a .rings) (a .table .mover) (a .table .opponent) _ (x .loop .r) (k .seek .result) (k .seek .ensures .0) (k .seek .ensures .1),
@@ -133,7 +138,7 @@ returns c =
     let x = c .before in
     let a = entered x .args in
     let e : x .loop .r ≡ size (8 * a .rings) (a .table .mover) (a .table .opponent) = omega (arith, c .loop-test .left, x .loop .inv .0, x .loop .inv .1) in
-    x .loop .inv .3 ∙ ap (judgedFirst (a .rings) (a .table) (a .same) (a .level) (a .tablebase .now)) e
+    x .loop .inv .3 ∙ ap (judgedFirst (a .rings) (a .table) (a .same) (a .level) (a .maps) (a .tablebase .now)) e
 
 pub judge-marked-spec : {M : Type 1} → statement M
 judge-marked-spec =

@@ -1,4 +1,4 @@
--- `sweeping::marks::level_table` meets its contract. Assumes nothing.
+-- `sweeping::classes::level_table` meets its contract. Assumes nothing.
 use mathlib.Core.Path.{sym, ap, subst, _∙_}
 use mathlib.Core.Bool.{true, false}
 use Prim.Native.Nat.{ℕ, _-_, _*_}
@@ -7,11 +7,12 @@ use lib.ListN.{length}
 use Rattle.sizes.specs.Size.{size}
 use Rattle.sweeping.specs.Levels.{Fits}
 use Rattle.sweeping.specs.Marked.{sameSource, lowerSource}
-use Rattle.sweeping.proofs.Sources.{same-before, lower-before, from-marked}
-use Rattle.sweeping.proofs.MarkedLevels.{levelled-is}
+use Rattle.sweeping.proofs.Sources.{same-before, lower-before}
+use Rattle.imaging.specs.Images.{leastOfClass}
+use Rattle.sweeping.proofs.Sought.{from-length, level-is}
 use borrow.Author.Needs.{needs}
-use Rattle.sweeping.proofs.marks.level_table.Statement.{statement}
-use Rattle.sweeping.proofs.marks.level_table.Tie as tie
+use Rattle.sweeping.proofs.classes.level_table.Statement.{statement}
+use Rattle.sweeping.proofs.classes.level_table.Tie as tie
 
 -- the tables fit, by the length that marks leave
 fits-once : (c : tie.After-mark-table)
@@ -22,8 +23,8 @@ fits-once c =
     let a = s .args in
     let p = s .pre .1 .1 .1 in
     subst (λ (n : ℕ). Fits n (a .rings) (a .table) (a .same)) (sym (ap length (c .mark-table .ensures)
-    ∙ from-marked (a .rings) (a .table) (sameSource (a .table) (a .same)) false (same-before (a .table) (a .same)) (a .level - 1) (omega (arith, p .4, p .5))
-    (a .tablebase .now) (size (8 * a .rings) (a .table .opponent) (a .table .mover)) (omega arith) .same-length)) (p .0)
+    ∙ from-length (a .rings) (a .table .own .start) (sameSource (a .table) (a .same)) false (a .level - 1) (leastOfClass (a .rings) (a .maps)) (a .tablebase .now)
+    (size (8 * a .rings) (a .table .opponent) (a .table .mover)))) (p .0)
 
 sub-mark-table : tie.Need-sub-mark-table
 sub-mark-table c = search needs
@@ -46,13 +47,15 @@ mark-table-requires c κs =
             p .1,
             λ h. p .0 .reads .same-room,
             omega (arith, p .4, p .5),
+            p .6,
+            p .7,
           ),
         ),
       ),
     )
 
-sub-t17 : tie.Need-sub-t17
-sub-t17 c = search needs
+sub-t19 : tie.Need-sub-t19
+sub-t19 c = search needs
 
 sub-mark-table-2 : tie.Need-sub-mark-table-2
 sub-mark-table-2 c = search needs
@@ -77,6 +80,8 @@ mark-table-requires-2 c κs =
             p .1,
             λ h. f .reads .fewer-room (omega arith),
             omega (arith, p .4, p .5),
+            p .6,
+            p .7,
           ),
         ),
       ),
@@ -96,9 +101,11 @@ judge-marked-requires c κs =
           s .pre .1 .1 .0,
           (
             subst (λ (n : ℕ). Fits n (a .rings) (a .table) (a .same)) (sym (ap length (d .mark-table2 .ensures)
-                ∙ from-marked (a .rings) (a .table) (lowerSource (a .table)) true (lower-before (a .table) (p .2)) (a .level - 1) (omega (arith, p .4, p .5))
-                (k .mark-table .last .0) (size (8 * a .rings) (a .table .opponent - 1) (a .table .mover)) (omega arith) .same-length)) (fits-once k),
+                ∙ from-length (a .rings) (a .table .own .start) (lowerSource (a .table)) true (a .level - 1) (leastOfClass (a .rings) (a .maps)) (k .mark-table .last .0)
+                (size (8 * a .rings) (a .table .opponent - 1) (a .table .mover)))) (fits-once k),
             p .5,
+            p .6,
+            p .7,
           ),
         ),
       ),
@@ -113,7 +120,7 @@ returns c =
     let d = j .before .before .before .before in
     let k = d .before .before .before .before .before in
     let a = k .before .before .before .before .args in
-    levelled-is (a .rings) (a .table) (a .same) (a .level) (a .tablebase .now) (k .mark-table .last .0) (d .mark-table2 .last .0) (j .judge-marked .last .0)
+    level-is (a .rings) (a .table) (a .same) (a .level) (a .maps) (leastOfClass (a .rings) (a .maps)) (a .tablebase .now) (k .mark-table .last .0) (d .mark-table2 .last .0) (j .judge-marked .last .0)
     (k .mark-table .ensures) (d .mark-table2 .ensures) (j .judge-marked .ensures)
 
 pub level-table-spec : {M : Type 1} → statement M
@@ -122,7 +129,7 @@ level-table-spec =
     (tie.spec
     sub-mark-table
     mark-table-requires
-    sub-t17
+    sub-t19
     sub-mark-table-2
     mark-table-requires-2
     judge-marked-requires

@@ -1,4 +1,4 @@
--- Level 0 finds the blocked movers: it is a sweep of all positions at that level. Assumes nothing.
+-- Level 0 place by place, as the code goes: closed, blocked, or free to move. Assumes nothing.
 use mathlib.Core.Path.{_≡_, refl, sym, ap, _∙_}
 use mathlib.Core.Bool.{Bool, true, false, _&&_}
 use mathlib.Core.List.{List, [], _∷_, map}
@@ -9,10 +9,9 @@ use Rattle.lists.specs.Lists.{isEmpty}
 use Rattle.ranking.specs.Unrank.{unrank}
 use Rattle.rules.specs.Ply.{removable, listedMoves, afterPly}
 use Rattle.rules.proofs.Listed.{successors-are}
-use Rattle.game.proofs.Hits.{hit-zero}
 use Rattle.outcomes.specs.Whole.{next}
 use Rattle.sweeping.specs.declared.tables.Table.{Table}
-use Rattle.sweeping.specs.Levels.{isOpen, blockedPlace, blockedFirst, ranked, judged, sweptPlace, swept}
+use Rattle.sweeping.specs.Levels.{isOpen, blockedPlace, blockedFirst}
 
 empty-map : {A B : Type 0} (f : A → B) (l : List A) → isEmpty (map f l) ≡ isEmpty l
 empty-map f [] = refl
@@ -58,14 +57,3 @@ module _ (rings : ℕ) (t : Table) (now : List ℕ) where
   unfolding blockedFirst
   blocked-lengths zero = refl
   blocked-lengths (suc n) = blocked-length rings t n (blockedFirst rings t now n) ∙ blocked-lengths n
-
-  place-swept : (same r : ℕ) (l : List ℕ) → blockedPlace rings t l r ≡ sweptPlace rings t same (λ i. true) 0 l r
-  unfolding blockedPlace sweptPlace
-  place-swept same r l = ap (λ (b : Bool). elim (isOpen t l r && b) as (λ c. List ℕ) [ true ↦ set l (t .own .start + r) 0 | false ↦ l ])
-      (sym (hit-zero (next rings) (judged rings t same l) (ranked rings t same r)))
-
-  pub blocked-swept : (same n : ℕ) → blockedFirst rings t now n ≡ swept rings t same (λ i. true) 0 now n
-  unfolding blockedFirst swept
-  blocked-swept same zero = refl
-  blocked-swept same (suc n) =
-      place-swept same n (blockedFirst rings t now n) ∙ ap (λ (l : List ℕ). sweptPlace rings t same (λ i. true) 0 l n) (blocked-swept same n)

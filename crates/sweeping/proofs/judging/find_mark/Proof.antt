@@ -1,4 +1,4 @@
--- `sweeping::marks::find_mark` meets its contract. Assumes nothing.
+-- `sweeping::judging::find_mark` meets its contract. Assumes nothing.
 use mathlib.Core.Path.{_≡_, subst}
 use Prim.Native.Nat.{ℕ, _+_, _-_}
 use native.Mathlib.Omega.{arith}
@@ -6,8 +6,8 @@ use Rattle.game.specs.Game.{voidEntry}
 use Rattle.parts.specs.Finding.{First}
 use Rattle.sweeping.proofs.Sought.{mark-first}
 use borrow.Author.Needs.{needs}
-use Rattle.sweeping.proofs.marks.find_mark.Statement.{statement}
-use Rattle.sweeping.proofs.marks.find_mark.Tie as tie
+use Rattle.sweeping.proofs.judging.find_mark.Statement.{statement}
+use Rattle.sweeping.proofs.judging.find_mark.Tie as tie
 
 add-find : tie.Need-add-find
 add-find c = search needs

@@ -1,0 +1,377 @@
+-- A level by marks and classes in the pair's game: an image of every position of its depth is marked, or has the level already, so that the level
+-- writes what a sweep of the whole table would. Assumes nothing.
+use mathlib.Core.Path.{_≡_, refl, sym, ap, ap₂, subst, _∙_}
+use mathlib.Core.Bool.{Bool, true, false}
+use mathlib.Core.List.{List, List·Memᴰ}
+use mathlib.Core.Logic.{_⊎_, inl, inr}
+use Prim.Native.Nat.{ℕ, suc, _+_, _-_, _*_, _≤_, _<_}
+use native.Mathlib.Omega.{arith}
+use lib.Dec.{ltb}
+use lib.ListN.{length, getD}
+use borrow.Author.Tests.{eq-eqb, lt-ltb, le-ltb, ltb-true, ltb-false}
+use Rattle.board.specs.Board.{Values, count}
+use Rattle.sizes.specs.Size.{size}
+use Rattle.ranking.specs.Rank.{rank}
+use Rattle.ranking.specs.Unrank.{unrank}
+use Rattle.layout.specs.Layout.{start, tablebaseLength}
+use Rattle.rules.specs.Ply.{removable}
+use Rattle.rules.specs.Predecessors.{predecessors}
+use Rattle.rules.proofs.Listed.{successor-of, removable-takes}
+use Rattle.rules.proofs.Leads.{ply-leads}
+use Rattle.rules.proofs.Found.{Found, found}
+use Rattle.game.specs.Game.{Seed, live, ends, drawn, drawEntry, voidEntry, Depth}
+use Rattle.game.proofs.Depths.{NotBefore, before-or-not}
+use Rattle.game.proofs.Tables.{Seeded}
+use Rattle.game.proofs.Levels.{Fresh, Within, within-same}
+use Rattle.outcomes.specs.Places.{place, entryAt, successorEntry}
+use Rattle.outcomes.specs.Whole.{next}
+use Rattle.outcomes.specs.Pair.{Pair, pairSeed, LowerValid}
+use Rattle.outcomes.specs.Filled.{BothTables, Kept}
+use Rattle.outcomes.proofs.Ranked.{InTable, unrank-in, rank-in, unrank-of, place-at, place-unrank, one-board}
+use Rattle.outcomes.proofs.PairGame.{OnPair, InPair, on-pair, pair-table, below, stands-own}
+use Rattle.outcomes.proofs.Entries.{entry-place, entry-rank, entry-two, entry-three, kept-then}
+use Rattle.outcomes.proofs.PairLevels.{Amid, pair-live, live-pair, pair-ground, pair-seeded, pair-entry}
+use Rattle.symmetry.specs.Symmetries.{image}
+use Rattle.game.proofs.Maps.{Image}
+use Rattle.game.proofs.Mapped.{sources-image, map-depth, symmetric-same}
+use Rattle.invariance.specs.Used.{LowerSymmetric}
+use Rattle.invariance.proofs.Groups.{Group}
+use Rattle.invariance.proofs.PairMaps.{image-table}
+use Rattle.imaging.proofs.Picked.{Picks}
+use Rattle.sweeping.specs.declared.tables.Table.{Table}
+use Rattle.sweeping.specs.declared.marks.Source.{Source}
+use Rattle.sweeping.specs.Levels.{Fits}
+use Rattle.sweeping.proofs.Probed.{lower-starts}
+use Rattle.levels.proofs.Sides.{Side, sizes}
+use Rattle.sweeping.proofs.Sources.{same-before, lower-before}
+use Rattle.sweeping.specs.Marked.{sameSource, lowerSource, isSource, markedFrom, levelMarks, judgedFirst, levelByClasses}
+use Rattle.levels.proofs.Views.{opened, opened-mark, opened-other, view}
+use Rattle.levels.proofs.Sources.{MarkedIn, MarkedPart, part-then, closed-still, from-marked, source-same, from-closed}
+use Rattle.levels.proofs.Judging.{mapped, SymmetricTable, Judging, judged-all, no-marks, all-done}
+
+-- the marks
+module _ (rings : ℕ) (t : Table) (same level maps : ℕ) (picked : List ℕ → Bool) (low : level < voidEntry) (three : 3 ≤ t .opponent) (clean : List ℕ)
+    (fits : Fits (length clean) rings t same) where
+  abbrev own : ℕ
+  own = size (8 * rings) (t .mover) (t .opponent)
+
+  abbrev once : List ℕ
+  once = markedFrom rings (t .own .start) (sameSource t same) false (level - 1) picked clean (size (8 * rings) (t .opponent) (t .mover))
+
+  once-marked : MarkedPart (t .own .start) own clean once
+  once-marked =
+      from-marked rings t (sameSource t same) false (same-before t same) (level - 1) (omega arith) picked clean (size (8 * rings) (t .opponent) (t .mover)) (omega arith)
+
+  rest-marked : MarkedPart (t .own .start) own once (levelMarks rings t same level maps picked clean)
+  unfolding levelMarks
+  rest-marked =
+      from-marked rings t (lowerSource t) true (lower-before t three) (level - 1) (omega arith) picked once (size (8 * rings) (t .opponent - 1) (t .mover)) (omega arith)
+
+  pub all-marked : MarkedPart (t .own .start) own clean (levelMarks rings t same level maps picked clean)
+  all-marked = part-then once-marked rest-marked
+
+  -- an open board before a picked one of the depth below is marked
+  module _ (p : List ℕ) (i : InTable rings (t .mover) (t .opponent) p) (blank : getD clean (t .own .start + rank p) 0 ≡ drawEntry) where
+    fits-in : t .own .start + rank p < length clean
+    fits-in = omega (arith, fits .end-is, fits .room, rank-in rings (t .mover) (t .opponent) p i)
+
+    closed-marked : (getD (levelMarks rings t same level maps picked clean) (t .own .start + rank p) 0 ≡ drawEntry → ⊥)
+        → getD (levelMarks rings t same level maps picked clean) (t .own .start + rank p) 0 ≡ voidEntry
+    closed-marked c = go (all-marked .at (t .own .start + rank p))
+      where
+        go : MarkedIn (t .own .start) own clean (levelMarks rings t same level maps picked clean) (t .own .start + rank p)
+            → getD (levelMarks rings t same level maps picked clean) (t .own .start + rank p) 0 ≡ voidEntry
+        go (inl e) = absurd (c (e ∙ blank))
+        go (inr e) = e .1
+
+    pub same-found : (q : List ℕ) → InTable rings (t .opponent) (t .mover) q → List·Memᴰ p (predecessors false rings q) → picked q ≡ true
+        → isSource (sameSource t same) (level - 1) clean (rank q) ≡ true
+        → getD (levelMarks rings t same level maps picked clean) (t .own .start + rank p) 0 ≡ voidEntry
+    same-found q j f c e =
+        let back = sym (unrank-of rings (t .opponent) (t .mover) q j) in
+        closed-marked (closed-still rest-marked (t .own .start + rank p)
+        (from-closed rings t (sameSource t same) false (same-before t same) (level - 1) (omega arith) picked clean (size (8 * rings) (t .opponent) (t .mover)) (omega arith)
+        (rank q) (rank-in rings (t .opponent) (t .mover) q j) e (subst (λ (b : List ℕ). picked b ≡ true) back c) p
+        (subst (λ (b : List ℕ). List·Memᴰ p (predecessors false rings b)) back f) fits-in))
+
+    pub lower-found : (q : List ℕ) → InTable rings (t .opponent - 1) (t .mover) q → List·Memᴰ p (predecessors true rings q) → picked q ≡ true
+        → isSource (lowerSource t) (level - 1) clean (rank q) ≡ true
+        → getD (levelMarks rings t same level maps picked clean) (t .own .start + rank p) 0 ≡ voidEntry
+    unfolding levelMarks
+    lower-found q j f c e =
+        let back = sym (unrank-of rings (t .opponent - 1) (t .mover) q j) in
+        closed-marked (from-closed rings t (lowerSource t) true (lower-before t three) (level - 1) (omega arith) picked once (size (8 * rings) (t .opponent - 1) (t .mover))
+        (omega arith) (rank q) (rank-in rings (t .opponent - 1) (t .mover) q j)
+        (source-same rings t (lowerSource t) true (lower-before t three) (level - 1) (omega arith) picked (t .own .start) own clean once once-marked (rank q) ∙ e)
+        (subst (λ (b : List ℕ). picked b ≡ true) back c) p
+        (subst (λ (b : List ℕ). List·Memᴰ p (predecessors true rings b)) back f)
+        (omega (arith, fits-in, once-marked .same-length)))
+
+source-stored : (s : Source) (depth : ℕ) (now : List ℕ) (r : ℕ) → 3 ≤ s .mover → getD now (s .start + r) 0 ≡ depth → isSource s depth now r ≡ true
+unfolding isSource
+source-stored s depth now r h e = rw (le-ltb (s .mover) 3 h, isSource) (eq-eqb (getD now (s .start + r) 0) depth e)
+
+source-two : (s : Source) (depth : ℕ) (now : List ℕ) (r : ℕ) → s .mover < 3 → depth ≡ 0 → isSource s depth now r ≡ true
+unfolding isSource
+source-two s depth now r h e = rw (lt-ltb (s .mover) 3 h, isSource) (eq-eqb depth 0 e)
+
+module _ (rings k m o : ℕ) (pair : Pair rings k m o) (before : List ℕ) (valid : LowerValid rings k m o before) (maps : ℕ) (group : Group maps)
+    (mirrored : LowerSymmetric maps rings k m o before) (picked : List ℕ → Bool) (picks : Picks rings maps picked)
+    (x y : ℕ) (t : Table) (same : ℕ) (side : Side rings k m o x y t same) (level : ℕ) (pos : 0 < level) (low : level < voidEntry) (clean : List ℕ)
+    (fits : Fits (length clean) rings t same) (D : List ℕ → Type 0) (w : Amid rings k m o pair before valid level D clean)
+    (symmetric : SymmetricTable rings k m o pair before valid maps group mirrored (λ b. successorEntry rings k clean b)) where
+  three : 3 ≤ t .opponent
+  three = omega (arith, side .low, side .located .opponent-is)
+
+  abbrev marks-of : List ℕ
+  marks-of = levelMarks rings t same level maps picked clean
+
+  in-own : (p : List ℕ) → InTable rings x y p → InTable rings (t .mover) (t .opponent) p
+  in-own p i = record {
+    values = i .values;
+    points = i .points;
+    mover = i .mover ∙ sym (side .located .mover-is);
+    opponent = i .opponent ∙ sym (side .located .opponent-is);
+  }
+
+  own-place : (p : List ℕ) → InTable rings x y p → t .own .start + rank p ≡ place rings k p
+  own-place p i = ap (λ (s : ℕ). s + rank p) (side .located .start-is) ∙ sym (place-at rings k x y p i)
+
+  -- an open board of the table with a picked successor of the depth below is marked
+  module _ (p : List ℕ) (i : InTable rings x y p) (blank : successorEntry rings k clean p ≡ drawEntry)
+      (q : List ℕ) (ply : List·Memᴰ q (next rings p)) (v : successorEntry rings k clean q ≡ level - 1) (chosen : picked q ≡ true) where
+    own-blank : getD clean (t .own .start + rank p) 0 ≡ drawEntry
+    own-blank =
+        ap (λ (j : ℕ). getD clean j 0) (own-place p i) ∙ sym (entry-place rings k clean p)
+        ∙ sym (pair-entry rings k m o pair before valid clean p (pair-table (side .both) i)) ∙ blank
+
+    after : Values q × (length q ≡ 8 * rings) × (count 2 q ≡ count 1 p)
+    after =
+        let a = successor-of (λ n c. removable n c) rings p q ply in
+        let l = ply-leads (λ n c. removable n c) removable-takes rings (pair .small) p (i .values) (i .points) (a .0) (a .1) in
+        subst (λ (c : List ℕ). Values c × (length c ≡ 8 * rings) × (count 2 c ≡ count 1 p)) (sym (a .2)) (l .values, l .points ∙ i .points, l .opponent)
+
+    whose : (u : ℕ) → count 1 q ≡ u → InTable rings u (t .mover) q
+    whose u e = record { values = after .0; points = after .1; mover = e; opponent = after .2 ∙ in-own p i .mover }
+
+    entry-of : (u s : ℕ) → count 1 q ≡ u → 3 ≤ u → s ≡ start (8 * rings) k u x → getD clean (s + rank q) 0 ≡ level - 1
+    entry-of u s e h f =
+        ap (λ (z : ℕ). getD clean (z + rank q) 0)
+        (f ∙ ap₂ (start (8 * rings) k) (sym e) (sym (after .2 ∙ i .mover)))
+        ∙ entry-rank rings k clean q ∙ sym (entry-three rings k clean q (omega arith)) ∙ v
+
+    marked-place : getD marks-of (t .own .start + rank p) 0 ≡ voidEntry
+    marked-place = go (found (λ n c. removable n c) removable-takes rings (pair .small) p (i .values) (i .points) q ply)
+      where
+        removed : count 1 q ≡ t .opponent - 1 → (c : Bool) → ltb (t .opponent - 1) 3 ≡ c
+            → isSource (lowerSource t) (level - 1) clean (rank q) ≡ true
+        removed e true f =
+            let h = ltb-true (t .opponent - 1) 3 f in
+            source-two (lowerSource t) (level - 1) clean (rank q) h (sym v ∙ entry-two rings k clean q (omega arith))
+        removed e false f =
+            let h = ltb-false (t .opponent - 1) 3 f in
+            let z : t .opponent ≡ y = side .located .opponent-is in
+            source-stored (lowerSource t) (level - 1) clean (rank q) h
+            (entry-of (t .opponent - 1) (t .lower .start) e h (side .located .lower-start-is ∙ lower-starts (8 * rings) k x y (omega arith)
+            ∙ ap (λ (n : ℕ). start (8 * rings) k (n - 1) x) (sym z)))
+
+        go : Found rings p q → getD marks-of (t .own .start + rank p) 0 ≡ voidEntry
+        go (inl (f, e)) =
+            let u : count 1 q ≡ t .opponent = e ∙ in-own p i .opponent in
+            same-found rings t same level maps picked low three clean fits p (in-own p i) own-blank q (whose (t .opponent) u) f chosen
+            (source-stored (sameSource t same) (level - 1) clean (rank q) three
+            (entry-of (t .opponent) same u three (side .same-is ∙ ap (λ (n : ℕ). start (8 * rings) k n x) (sym (side .located .opponent-is)))))
+        go (inr (f, e)) =
+            let u : count 1 q ≡ t .opponent - 1 = omega (arith, in-own p i .opponent) in
+            lower-found rings t same level maps picked low three clean fits p (in-own p i) own-blank q (whose (t .opponent - 1) u) f chosen
+            (removed u (ltb (t .opponent - 1) 3) refl)
+
+    is-marked : entryAt rings k marks-of p ≡ voidEntry
+    is-marked = entry-place rings k marks-of p ∙ ap (λ (j : ℕ). getD marks-of j 0) (sym (own-place p i)) ∙ marked-place
+
+  -- a board of the table that has the level's depth has the level's entry, or an image of it is marked
+  module _ (p : List ℕ) (i : InTable rings x y p) (d : Depth (next rings) (λ c. pairSeed rings k m o before c) level p) where
+    on-p : OnPair rings m o p
+    on-p = on-pair (pair-table (side .both) i)
+
+    pub found-image : (successorEntry rings k clean p ≡ level)
+        ⊎ ((g : ℕ) × (g < maps) × (entryAt rings k marks-of (image rings g p) ≡ voidEntry))
+    found-image =
+        let e : level ≡ suc (level - 1) = omega arith in
+        let (q, ply, on-q, all-images) =
+        sources-image (next rings) (λ c. pairSeed rings k m o before c) (OnPair rings m o) maps (λ g c. image rings g c)
+        (mapped rings k m o pair before valid maps group mirrored) (pair-ground rings k m o pair before valid) (level - 1)
+        (omega arith) (λ b. successorEntry rings k clean b) D
+        (subst (λ (n : ℕ). Within (next rings) (λ c. pairSeed rings k m o before c) (OnPair rings m o) (λ b. successorEntry rings k clean b) n D) e w) symmetric
+        p on-p (pair-live rings k m o pair before valid p (pair-table (side .both) i))
+        (subst (λ (n : ℕ). Depth (next rings) (λ c. pairSeed rings k m o before c) n p) e d) in
+        let (g, l, c) = picks q (on-q .points) in
+        let a = all-images g l in
+        go g l (image rings g q) (a .0) (a .1) c
+        (w .fresh (image rings g p) (on-pair (own-image g l))
+        (pair-live rings k m o pair before valid (image rings g p) (own-image g l)) (depth-image g l .below))
+      where
+        in-image : (g : ℕ) → g < maps → InTable rings x y (image rings g p)
+        in-image g l = image-table rings (pair .small) g (omega (arith, group .high)) x y p i
+
+        own-image : (g : ℕ) → g < maps → InPair rings m o (image rings g p)
+        own-image g l = pair-table (side .both) (in-image g l)
+
+        depth-image : (g : ℕ) → g < maps → Depth (next rings) (λ c. pairSeed rings k m o before c) level (image rings g p)
+        depth-image g l =
+            map-depth (next rings) (λ c. pairSeed rings k m o before c) (OnPair rings m o) maps (λ h c. image rings h c)
+            (mapped rings k m o pair before valid maps group mirrored) (pair-ground rings k m o pair before valid .closed) g l level p on-p d
+
+        go : (g : ℕ) → g < maps → (q : List ℕ) → List·Memᴰ q (next rings (image rings g p)) → successorEntry rings k clean q ≡ level - 1 → picked q ≡ true
+            → Fresh (next rings) (λ c. pairSeed rings k m o before c) (OnPair rings m o) level (successorEntry rings k clean (image rings g p)) (image rings g p)
+            → (successorEntry rings k clean p ≡ level) ⊎ ((g : ℕ) × (g < maps) × (entryAt rings k marks-of (image rings g p) ≡ voidEntry))
+        go g l q ply v c (inl blank) = inr (g, l, is-marked (image rings g p) (in-image g l) blank q ply v c)
+        go g l q ply v c (inr f) = inl (sym (symmetric g l p on-p) ∙ f .0)
+
+  abbrev SeenFree : List ℕ → Type 0
+  SeenFree now = (q : List ℕ) → OnPair rings m o q → successorEntry rings k now q ≡ voidEntry → ⊥
+
+  -- given entries are no marks
+  seen-free : (now : List ℕ) → Kept rings k (BothTables m o) before now → ((q : List ℕ) → InPair rings m o q → entryAt rings k now q ≡ voidEntry → ⊥) → SeenFree now
+  seen-free now kept own-free q s v = go (pairSeed rings k m o before q) refl
+    where
+      seeded : Seeded (next rings) (λ b. pairSeed rings k m o before b) (OnPair rings m o) (λ b. successorEntry rings k now b)
+      seeded = pair-seeded rings k m o pair before valid now kept
+
+      go : (z : Seed) → pairSeed rings k m o before q ≡ z → ⊥
+      go live e =
+          let i = live-pair rings k m o pair before valid q s e in
+          own-free q i (sym (pair-entry rings k m o pair before valid now q i) ∙ v)
+      go (ends d) e = omega (arith, seeded .at-end q s e, pair-ground rings k m o pair before valid .given-low q s e)
+      go drawn e = omega (arith, seeded .at-draw q s e)
+
+  view-is : (now : List ℕ) → SeenFree now → (q : List ℕ) → OnPair rings m o q → view rings k now q ≡ successorEntry rings k now q
+  view-is now free q s = opened-other (successorEntry rings k now q) (free q s)
+
+  -- no entry of the pair is void before the level
+  own-valid : (q : List ℕ) → InPair rings m o q → entryAt rings k clean q ≡ voidEntry → ⊥
+  own-valid q i v = go (before-or-not (next rings) (λ c. pairSeed rings k m o before c) level q)
+    where
+      e : pairSeed rings k m o before q ≡ live
+      e = pair-live rings k m o pair before valid q i
+
+      is : successorEntry rings k clean q ≡ voidEntry
+      is = pair-entry rings k m o pair before valid clean q i ∙ v
+
+      none : Fresh (next rings) (λ c. pairSeed rings k m o before c) (OnPair rings m o) level (successorEntry rings k clean q) q → ⊥
+      none (inl f) = omega (arith, is)
+      none (inr f) = omega (arith, is, f .0)
+
+      go : ((j : ℕ) × (j < level) × Depth (next rings) (λ c. pairSeed rings k m o before c) j q)
+          ⊎ NotBefore (next rings) (λ c. pairSeed rings k m o before c) level q → ⊥
+      go (inl (j, l, d)) = omega (arith, is, w .low q (on-pair i) e j l d)
+      go (inr n) = none (w .fresh q (on-pair i) e n)
+
+  module _ (kept : Kept rings k (BothTables m o) before clean) (room : length clean ≡ tablebaseLength (8 * rings) k) where
+    the-marks : MarkedPart (t .own .start) (size (8 * rings) (t .mover) (t .opponent)) clean marks-of
+    the-marks = all-marked rings t same level maps picked low three clean fits
+
+    -- marks read as open, the table is as it was
+    marks-view : (q : List ℕ) → OnPair rings m o q → view rings k marks-of q ≡ successorEntry rings k clean q
+    marks-view q s = at (ltb (count 1 q) 3) refl
+      where
+        clean-is : view rings k clean q ≡ successorEntry rings k clean q
+        clean-is = view-is clean (seen-free clean kept own-valid) q s
+
+        mark : MarkedIn (t .own .start) (size (8 * rings) (t .mover) (t .opponent)) clean marks-of (place rings k q) → opened (entryAt rings k marks-of q) ≡ opened (entryAt rings k clean q)
+        mark (inl e) = ap (λ (v : ℕ). opened v) (entry-place rings k marks-of q ∙ e ∙ sym (entry-place rings k clean q))
+        mark (inr e) =
+            opened-mark (entryAt rings k marks-of q) (entry-place rings k marks-of q ∙ e .1)
+            ∙ sym (opened-other drawEntry (λ z. omega arith)) ∙ ap (λ (v : ℕ). opened v) (sym (entry-place rings k clean q ∙ e .0))
+
+        at : (c : Bool) → ltb (count 1 q) 3 ≡ c → view rings k marks-of q ≡ successorEntry rings k clean q
+        at true f =
+            let l = ltb-true (count 1 q) 3 f in
+            ap (λ (v : ℕ). opened v) (entry-two rings k marks-of q l ∙ sym (entry-two rings k clean q l)) ∙ clean-is
+        at false f =
+            let l = ltb-false (count 1 q) 3 f in
+            ap (λ (v : ℕ). opened v) (entry-three rings k marks-of q l) ∙ mark (the-marks .at (place rings k q))
+            ∙ ap (λ (v : ℕ). opened v) (sym (entry-three rings k clean q l)) ∙ clean-is
+
+    -- what holds once the marks are made
+    start-judging : Judging rings k m o pair before valid maps group mirrored x y t same side level low D 0 marks-of
+    start-judging = record {
+      kept = kept-then rings k (BothTables m o) before clean marks-of kept
+          record { same-length = the-marks .same-length; rest = λ j none. rest j none (the-marks .at j) };
+      room = the-marks .same-length ∙ room;
+      amid = within-same (next rings) (λ c. pairSeed rings k m o before c) (OnPair rings m o) (pair-ground rings k m o pair before valid) level low
+          (λ b. successorEntry rings k clean b) (view rings k marks-of) marks-view D w;
+      symmetric = symmetric-same (next rings) (λ c. pairSeed rings k m o before c) (OnPair rings m o) maps (λ g c. image rings g c)
+          (mapped rings k m o pair before valid maps group mirrored) (λ b. successorEntry rings k clean b) (view rings k marks-of) marks-view symmetric;
+      marks = λ q i v. (whose q i v (the-marks .at (place rings k q)), omega arith);
+      pending = λ p i d. go p i (found-image p i d) (the-marks .at (place rings k p));
+    }
+      where
+        rest : (j : ℕ) → ((a b r : ℕ) → BothTables m o a b → r < size (8 * rings) a b → start (8 * rings) k a b + r ≡ j → ⊥)
+            → MarkedIn (t .own .start) (size (8 * rings) (t .mover) (t .opponent)) clean marks-of j → getD marks-of j 0 ≡ getD clean j 0
+        rest j none (inl e) = e
+        rest j none (inr (a, b, (r, h, q))) =
+            absurd (none x y r (side .both) (omega (arith, sizes rings k m o pair x y t same side)) (ap (λ (s : ℕ). s + r) (sym (side .located .start-is)) ∙ q))
+
+        whose : (q : List ℕ) → InPair rings m o q → entryAt rings k marks-of q ≡ voidEntry
+            → MarkedIn (t .own .start) (size (8 * rings) (t .mover) (t .opponent)) clean marks-of (place rings k q) → InTable rings x y q
+        whose q i v (inl e) = absurd (own-valid q i (entry-place rings k clean q ∙ sym e ∙ sym (entry-place rings k marks-of q) ∙ v))
+        whose q i v (inr (a, b, (r, h, f))) =
+            let l : r < size (8 * rings) x y = omega (arith, sizes rings k m o pair x y t same side) in
+            let j = unrank-in rings x y r l in
+            subst (λ (c : List ℕ). InTable rings x y c)
+            (one-board rings k (unrank (8 * rings) x y r) q (stands-own rings k m o pair (unrank (8 * rings) x y r) (pair-table (side .both) j))
+            (stands-own rings k m o pair q i) (place-unrank rings k x y r l ∙ ap (λ (s : ℕ). s + r) (sym (side .located .start-is)) ∙ f)) j
+
+        go : (p : List ℕ) → InTable rings x y p → (successorEntry rings k clean p ≡ level)
+            ⊎ ((g : ℕ) × (g < maps) × (entryAt rings k marks-of (image rings g p) ≡ voidEntry))
+            → MarkedIn (t .own .start) (size (8 * rings) (t .mover) (t .opponent)) clean marks-of (place rings k p)
+            → (entryAt rings k marks-of p ≡ level)
+            ⊎ ((q : List ℕ) × Image (next rings) (λ c. pairSeed rings k m o before c) (OnPair rings m o) maps (λ g c. image rings g c) p q
+            × (entryAt rings k marks-of q ≡ voidEntry))
+        go p i (inr (g, l, v)) c = inr (image rings g p, (g, l, refl), v)
+        go p i (inl v) (inl e) =
+            inl (entry-place rings k marks-of p ∙ e ∙ sym (entry-place rings k clean p)
+            ∙ sym (pair-entry rings k m o pair before valid clean p (pair-table (side .both) i)) ∙ v)
+        go p i (inl v) (inr e) =
+            absurd (omega (arith, e .0, entry-place rings k clean p, pair-entry rings k m o pair before valid clean p (pair-table (side .both) i)))
+
+    abbrev last : List ℕ
+    last = levelByClasses rings t same level maps picked clean
+
+    end-judging : Judging rings k m o pair before valid maps group mirrored x y t same side level low D (size (8 * rings) x y) last
+    unfolding levelByClasses
+    end-judging =
+        subst (λ (n : ℕ). Judging rings k m o pair before valid maps group mirrored x y t same side level low D (size (8 * rings) x y)
+        (judgedFirst rings t same level maps marks-of n)) (sym (sizes rings k m o pair x y t same side))
+        (judged-all rings k m o pair before valid maps group mirrored x y t same side level low D marks-of start-judging (size (8 * rings) x y) (omega arith))
+
+    last-free : SeenFree last
+    last-free = seen-free last (end-judging .kept) (no-marks rings k m o pair before valid maps group mirrored x y t same side level low D last end-judging)
+
+    last-view : (q : List ℕ) → OnPair rings m o q → successorEntry rings k last q ≡ view rings k last q
+    last-view q s = sym (view-is last last-free q s)
+
+    -- the level over a table: it writes the pair alone, keeps what holds in the middle of a level and that images have one entry, and the
+    -- table's positions are done
+    pub level-kept : Kept rings k (BothTables m o) before (levelByClasses rings t same level maps picked clean)
+    level-kept = end-judging .kept
+
+    pub level-symmetric : SymmetricTable rings k m o pair before valid maps group mirrored (λ b. successorEntry rings k (levelByClasses rings t same level maps picked clean) b)
+    level-symmetric =
+        symmetric-same (next rings) (λ c. pairSeed rings k m o before c) (OnPair rings m o) maps (λ g c. image rings g c)
+        (mapped rings k m o pair before valid maps group mirrored) (view rings k last) (λ b. successorEntry rings k last b) last-view (end-judging .symmetric)
+
+    pub level-table : Amid rings k m o pair before valid level (λ b. D b ⊎ InTable rings x y b) (levelByClasses rings t same level maps picked clean)
+    level-table = record { seeds = v .seeds; low = v .low; fresh = v .fresh; done = λ p s e d z. done p s e d z }
+      where
+        v : Amid rings k m o pair before valid level D last
+        v = within-same (next rings) (λ c. pairSeed rings k m o before c) (OnPair rings m o) (pair-ground rings k m o pair before valid) level low
+            (view rings k last) (λ b. successorEntry rings k last b) last-view D (end-judging .amid)
+
+        done : (p : List ℕ) → OnPair rings m o p → pairSeed rings k m o before p ≡ live → D p ⊎ InTable rings x y p
+            → Depth (next rings) (λ c. pairSeed rings k m o before c) level p → successorEntry rings k last p ≡ level
+        done p s e (inl d) z = v .done p s e d z
+        done p s e (inr i) z =
+            pair-entry rings k m o pair before valid last p (pair-table (side .both) i)
+            ∙ all-done rings k m o pair before valid maps group mirrored x y t same side level low D last end-judging p i z

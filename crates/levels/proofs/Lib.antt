@@ -1,0 +1,7 @@
+pub mod Sides
+pub mod LevelZero
+pub mod Sources
+pub mod Views
+pub mod Written
+pub mod Judging
+pub mod ClassLevels

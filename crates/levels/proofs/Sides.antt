@@ -1,0 +1,73 @@
+-- One of the tables of a pair: the board, the place and the entry of a rank, and what is read of its successors. Assumes nothing.
+use mathlib.Core.Path.{_≡_, sym, ap, ap₂, _∙_}
+use mathlib.Core.Bool.{Bool, _&&_}
+use mathlib.Core.List.{List, List·Memᴰ}
+use Prim.Native.Nat.{ℕ, _+_, _*_, _≤_, _<_}
+use lib.Dec.{eqb}
+use lib.ListN.{getD}
+use Rattle.sizes.specs.Size.{size}
+use Rattle.ranking.specs.Unrank.{unrank}
+use Rattle.layout.specs.Layout.{start}
+use Rattle.game.specs.Game.{drawEntry}
+use Rattle.game.specs.Judgement.{hit, decided}
+use Rattle.game.proofs.Agree.{hit-agree, decided-agree}
+use Rattle.outcomes.specs.Places.{place, entryAt, successorEntry}
+use Rattle.outcomes.specs.Whole.{next}
+use Rattle.outcomes.specs.Pair.{Pair}
+use Rattle.outcomes.specs.Filled.{BothTables}
+use Rattle.outcomes.proofs.Ranked.{unrank-in, place-unrank}
+use Rattle.outcomes.proofs.PairGame.{InPair, pair-table}
+use Rattle.outcomes.proofs.Entries.{entry-unrank}
+use Rattle.sweeping.specs.declared.tables.Table.{Table}
+use Rattle.sweeping.specs.Tables.{Located}
+use Rattle.sweeping.specs.Levels.{isOpen, ranked, judged, openDecided}
+use Rattle.sweeping.proofs.Probed.{probed}
+
+-- one of the tables of a pair, and where the other starts
+pub record Side (rings k m o x y : ℕ) (t : Table) (same : ℕ) : Type 0 where
+  pub both : BothTables m o x y
+  pub low : 3 ≤ y
+  pub located : Located (8 * rings) k x y t
+  pub same-is : same ≡ start (8 * rings) k y x
+
+module _ (rings k m o : ℕ) (pair : Pair rings k m o) (x y : ℕ) (t : Table) (same : ℕ) (side : Side rings k m o x y t same) where
+  pub sizes : size (8 * rings) (t .mover) (t .opponent) ≡ size (8 * rings) x y
+  sizes = ap₂ (size (8 * rings)) (side .located .mover-is) (side .located .opponent-is)
+
+  pub ranked-is : (r : ℕ) → ranked rings t same r ≡ unrank (8 * rings) x y r
+  ranked-is r = ap₂ (λ (u v : ℕ). unrank (8 * rings) u v r) (side .located .mover-is) (side .located .opponent-is)
+
+  -- the position of rank r: its board, its place and its entry
+  module _ (r : ℕ) (h : r < size (8 * rings) x y) where
+    pub board-in : InPair rings m o (unrank (8 * rings) x y r)
+    board-in = pair-table (side .both) (unrank-in rings x y r h)
+
+    pub place-is : t .own .start + r ≡ place rings k (unrank (8 * rings) x y r)
+    place-is = ap (λ (s : ℕ). s + r) (side .located .start-is) ∙ sym (place-unrank rings k x y r h)
+
+    module _ (now : List ℕ) where
+      pub entry-is : getD now (t .own .start + r) 0 ≡ entryAt rings k now (unrank (8 * rings) x y r)
+      entry-is = ap (λ (s : ℕ). getD now (s + r) 0) (side .located .start-is) ∙ sym (entry-unrank rings k x y r now h)
+
+      pub open-is : isOpen t now r ≡ eqb (entryAt rings k now (unrank (8 * rings) x y r)) drawEntry
+      unfolding isOpen
+      open-is = ap (λ (e : ℕ). eqb e drawEntry) entry-is
+
+      -- its successors are judged by their entries
+      agree : (q : List ℕ) → List·Memᴰ q (next rings (unrank (8 * rings) x y r)) → judged rings t same now q ≡ successorEntry rings k now q
+      agree q i =
+          rw (side .same-is, side .located .lower-start-is, side .located .opponent-is)
+          (probed rings k x y (pair .small) (side .low) (unrank (8 * rings) x y r) (unrank-in rings x y r h) now q i)
+
+      pub hit-is : (n : ℕ) → hit (next rings) (judged rings t same now) n (ranked rings t same r)
+          ≡ hit (next rings) (λ b. successorEntry rings k now b) n (unrank (8 * rings) x y r)
+      hit-is n =
+          ap (hit (next rings) (judged rings t same now) n) (ranked-is r)
+          ∙ hit-agree (next rings) (judged rings t same now) (λ b. successorEntry rings k now b) (unrank (8 * rings) x y r) agree n
+
+      pub decided-is : openDecided rings t same now r ≡ (eqb (entryAt rings k now (unrank (8 * rings) x y r)) drawEntry
+          && decided (next rings) (λ b. successorEntry rings k now b) (unrank (8 * rings) x y r))
+      unfolding openDecided
+      decided-is = ap₂ (λ (a b : Bool). a && b) open-is
+          (ap (decided (next rings) (judged rings t same now)) (ranked-is r)
+          ∙ decided-agree (next rings) (judged rings t same now) (λ b. successorEntry rings k now b) (unrank (8 * rings) x y r) agree)

@@ -1,0 +1,38 @@
+-- `sweeping::marks::mark_source` meets its contract. Assumes nothing.
+use mathlib.Core.Path.{sym, _∙_}
+use Prim.Native.Nat.{_*_}
+use Rattle.board.specs.Board.{boardOf}
+use Rattle.imaging.specs.Images.{leastOfClass}
+use Rattle.sweeping.proofs.Sought.{gone-picked, gone-passed}
+use borrow.Author.Needs.{needs}
+use Rattle.sweeping.proofs.marks.mark_source.Statement.{statement}
+use Rattle.sweeping.proofs.marks.mark_source.Tie as tie
+
+is-least-requires : tie.Need-is-least-requires
+is-least-requires c κs = let p = c .before .pre .1 .1 .1 in (p .0 .0, (p .1 .0 .small, p .0 .1, p .1 .0 .on))
+
+mark-before-requires : tie.Need-mark-before-requires
+mark-before-requires c κs =
+    let s = c .before .before .before .before in
+    let p = s .pre .1 .1 .1 in
+    (s .pre .0, (s .pre .1 .0, (s .pre .1 .1 .0, (p .1 .0, p .1 .1))))
+
+same-length : tie.Need-same-length
+same-length c = search needs
+
+returns : tie.Need-returns
+returns c =
+    let t = c .before .before .before .before in
+    let a = t .before .before .before .args in
+    c .before .before .mark-before .ensures
+    ∙ gone-picked (a .rings) (a .own .start) (a .capture) (leastOfClass (a .rings) (a .maps)) (boardOf (8 * a .rings) (a .position)) (a .tablebase .now)
+    (sym (t .before .is-least .ensures) ∙ t .if1 .taken)
+
+returns-2 : tie.Need-returns-2
+returns-2 c =
+    let a = c .before .before .before .args in
+    gone-passed (a .rings) (a .own .start) (a .capture) (leastOfClass (a .rings) (a .maps)) (boardOf (8 * a .rings) (a .position)) (a .tablebase .now)
+    (sym (c .before .is-least .ensures) ∙ c .if1 .left)
+
+pub mark-source-spec : {M : Type 1} → statement M
+mark-source-spec = tie.close (tie.spec is-least-requires mark-before-requires same-length returns returns-2)
