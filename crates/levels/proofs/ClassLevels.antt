@@ -28,7 +28,7 @@ use Rattle.outcomes.specs.Whole.{next}
 use Rattle.outcomes.specs.Pair.{Pair, pairSeed, LowerValid}
 use Rattle.outcomes.specs.Filled.{BothTables, Kept}
 use Rattle.outcomes.proofs.Ranked.{InTable, unrank-in, rank-in, unrank-of, place-at, place-unrank, one-board}
-use Rattle.outcomes.proofs.PairGame.{OnPair, InPair, on-pair, pair-table, below, stands-own}
+use Rattle.outcomes.proofs.PairGame.{OnPair, InPair, on-pair, pair-table, stands-own}
 use Rattle.outcomes.proofs.Entries.{entry-place, entry-rank, entry-two, entry-three, kept-then}
 use Rattle.outcomes.proofs.PairLevels.{Amid, pair-live, live-pair, pair-ground, pair-seeded, pair-entry}
 use Rattle.symmetry.specs.Symmetries.{image}

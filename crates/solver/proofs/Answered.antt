@@ -30,7 +30,7 @@ use Rattle.sweeping.specs.declared.tables.Table.{Table}
 use Rattle.sweeping.specs.Levels.{openDecided}
 use Rattle.solver.specs.Pairs.{PairFound, pairFilled}
 use Rattle.solver.specs.Solve.{Setting}
-use Rattle.sweeping.proofs.Visits.{Side, decided-is}
+use Rattle.levels.proofs.Sides.{Side, decided-is}
 use Rattle.solver.proofs.Parts.{first-side, second-side, pair-kept, pair-filled}
 use Rattle.solver.proofs.States.{State, Rank, in-first, in-second, rank-of}
 use Rattle.solver.proofs.NextLevel.{setting-now}

@@ -5,3 +5,4 @@ pub mod PairSteps
 pub mod Answered
 pub mod PairStates
 pub mod LowerVoid
+pub mod PairClasses

@@ -1,4 +1,4 @@
--- From level to level of a pair: both tables at level 0 and at a level above it, and what a level beyond the limit shows. Assumes nothing.
+-- From level 0 of a pair to level 1, and what a level beyond the limit shows. Assumes nothing.
 use mathlib.Core.Path.{_≡_, refl, sym, ap, subst, _∙_}
 use mathlib.Core.Bool.{true, false}
 use mathlib.Core.List.{List}
@@ -17,7 +17,7 @@ use Rattle.board.specs.Board.{count}
 use Rattle.outcomes.specs.Places.{place, entryAt, successorEntry}
 use Rattle.outcomes.specs.Whole.{next}
 use Rattle.outcomes.specs.Pair.{pairSeed, LowerValid}
-use Rattle.outcomes.specs.Filled.{BothTables, Kept}
+use Rattle.outcomes.specs.Filled.{BothTables}
 use Rattle.outcomes.proofs.Ranked.{unrank-in}
 use Rattle.outcomes.proofs.PairGame.{OnPair, InPair, on-pair, pair-table}
 use Rattle.outcomes.proofs.Entries.{entry-place, entry-unrank}
@@ -25,13 +25,11 @@ use Rattle.outcomes.proofs.PairLevels.{pair-live, pair-ground, pair-entry}
 use Rattle.sweeping.specs.declared.tables.Table.{Table}
 use Rattle.sweeping.specs.Tables.{Located}
 use Rattle.sweeping.specs.Levels.{blockedFirst}
-use Rattle.sweeping.specs.Marked.{levelled}
-use Rattle.solver.specs.Pairs.{Holds, Beyond, pairBlocked, pairLevelled}
+use Rattle.solver.specs.Pairs.{Holds, Beyond, pairBlocked}
 use Rattle.solver.specs.Solve.{Setting}
 use Rattle.solver.proofs.Answered.{Deep}
-use Rattle.solver.proofs.Parts.{first-side, second-side, first-fits, second-fits, part-end, part-place}
-use Rattle.solver.proofs.States.{ExactBelow, State, AtLevel, None, Once, Twice, level-begun, blocked-step, level-step, both-ended, exact-most}
-use Rattle.solver.proofs.NextLevel.{setting-now}
+use Rattle.solver.proofs.Parts.{first-side, second-side, part-end, part-place}
+use Rattle.solver.proofs.States.{ExactBelow, State, AtLevel, None, Once, Twice, level-begun, blocked-step, both-ended, exact-most}
 
 module _ (rings k m o : ℕ) (a b : Table) (before : List ℕ) (s : Setting (length before) rings k m o a b) (valid : LowerValid rings k m o before)
     (limit : ℕ) where
@@ -64,27 +62,6 @@ module _ (rings k m o : ℕ) (a b : Table) (before : List ℕ) (s : Setting (len
 
   -- a level above 0
   module _ (level : ℕ) (pos : 0 < level) (low : level < voidEntry) (now : List ℕ) (st : State rings k m o a b before s valid limit level now) where
-    pub after-level : (after : List ℕ) → after ≡ pairLevelled rings a b level now
-        → Kept rings k (BothTables m o) before after × ExactBelow rings k m o a b before s valid (suc level) after
-    unfolding pairLevelled
-    after-level after is = both-ended rings k m o a b before s valid level low once twice after once-done twice-done is
-      where
-        once : List ℕ
-        once = levelled rings a (b .own .start) level now
-
-        twice : List ℕ
-        twice = levelled rings b (a .own .start) level once
-
-        once-done : AtLevel rings k m o a b before s valid level low (Once rings k m o a b before s valid level low) once
-        once-done = level-step rings k m o a b before s valid level low m o a (b .own .start) (first-side s)
-            (None rings k m o a b before s valid level low) now (level-begun rings k m o a b before s valid level low limit now st) pos
-            (first-fits (setting-now (length now) (st .kept .same-length) s))
-
-        twice-done : AtLevel rings k m o a b before s valid level low (Twice rings k m o a b before s valid level low) twice
-        twice-done = level-step rings k m o a b before s valid level low o m b (a .own .start) (second-side s)
-            (Once rings k m o a b before s valid level low) once once-done pos
-            (second-fits (setting-now (length once) (once-done .kept .same-length) s))
-
     -- an entry in the part of a table is that of a board
     held-board : (x y : ℕ) (t : Table) → Located (8 * rings) k x y t → (after : List ℕ) → Holds after (t .own) level
         → (r : ℕ) × (r < size (8 * rings) x y) × (entryAt rings k after (unrank (8 * rings) x y r) ≡ level)

@@ -16,8 +16,8 @@ use Rattle.parts.proofs.LeastDepth.{least-cases, part-below}
 use Rattle.sweeping.specs.declared.tables.Part.{Part}
 use Rattle.sweeping.specs.declared.tables.Table.{Table}
 use Rattle.sweeping.specs.Levels.{blockedFirst, openDecided, Found}
-use Rattle.sweeping.specs.Marked.{levelled}
-use Rattle.solver.specs.Pairs.{PairFound, PartIn, InRoom, Holds, Held, PairHeld, Beyond, pairBlocked, pairLevelled, pairLeast}
+use Rattle.sweeping.specs.Marked.{levelByClasses}
+use Rattle.solver.specs.Pairs.{PairFound, PartIn, InRoom, Holds, Held, PairHeld, Beyond, pairBlocked, pairByClasses, pairLeast}
 
 -- both tables, one after the other
 module _ (rings : ℕ) (a b : Table) (now once : List ℕ) where
@@ -31,14 +31,16 @@ module _ (rings : ℕ) (a b : Table) (now once : List ℕ) where
   blocked-twice is d = ap (λ (l : List ℕ). blockedFirst rings b l (size (8 * rings) (b .mover) (b .opponent))) is
       ∙ rw (ne-eqb (a .mover) (a .opponent) d, pairBlocked)
 
-  pub level-once : (level : ℕ) → once ≡ levelled rings a (b .own .start) level now → a .mover ≡ a .opponent → once ≡ pairLevelled rings a b level now
-  unfolding pairLevelled
-  level-once level is e = is ∙ rw (eq-eqb (a .mover) (a .opponent) e, pairLevelled)
+  module _ (level maps : ℕ) (picked : List ℕ → Bool) where
+    pub level-once : once ≡ levelByClasses rings a (b .own .start) level maps picked now → a .mover ≡ a .opponent
+        → once ≡ pairByClasses rings a b level maps picked now
+    unfolding pairByClasses
+    level-once is e = is ∙ rw (eq-eqb (a .mover) (a .opponent) e, pairByClasses)
 
-  pub level-twice : (level : ℕ) → once ≡ levelled rings a (b .own .start) level now → (a .mover ≡ a .opponent → ⊥)
-      → levelled rings b (a .own .start) level once ≡ pairLevelled rings a b level now
-  unfolding pairLevelled
-  level-twice level is d = ap (λ (l : List ℕ). levelled rings b (a .own .start) level l) is ∙ rw (ne-eqb (a .mover) (a .opponent) d, pairLevelled)
+    pub level-twice : once ≡ levelByClasses rings a (b .own .start) level maps picked now → (a .mover ≡ a .opponent → ⊥)
+        → levelByClasses rings b (a .own .start) level maps picked once ≡ pairByClasses rings a b level maps picked now
+    unfolding pairByClasses
+    level-twice is d = ap (λ (l : List ℕ). levelByClasses rings b (a .own .start) level maps picked l) is ∙ rw (ne-eqb (a .mover) (a .opponent) d, pairByClasses)
 
 -- the first table has none: the second decides
 pub second-found : (rings : ℕ) (a b : Table) (now : List ℕ)

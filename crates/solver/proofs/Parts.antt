@@ -23,7 +23,7 @@ use Rattle.sweeping.specs.Levels.{Lies, Fits}
 use Rattle.solver.specs.Pairs.{Counted, pairFilled}
 use Rattle.solver.specs.Solve.{Setting}
 use Rattle.sweeping.proofs.Probed.{reads-within}
-use Rattle.sweeping.proofs.Visits.{Side}
+use Rattle.levels.proofs.Sides.{Side}
 
 -- a table of a pair, whichever of the two
 pub in-range : {rings k m o x y : ℕ} → Pair rings k m o → BothTables m o x y → InRange k x y

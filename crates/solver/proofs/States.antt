@@ -1,38 +1,35 @@
 -- The levels of a pair's solver: what holds before each level, that a sweep and the step to the next level keep it, and what the solver answers in
 -- the end. Assumes nothing.
-use mathlib.Core.Path.{_≡_, refl, sym, ap, ap₂, subst, _∙_}
+use mathlib.Core.Path.{_≡_, refl, sym, subst, _∙_}
 use mathlib.Core.Bool.{Bool, true, false}
 use mathlib.Core.List.{List}
 use mathlib.Core.Logic.{_⊎_, inl, inr}
-use Prim.Native.Nat.{ℕ, suc, _+_, _*_, _≤_, _<_}
+use Prim.Native.Nat.{ℕ, suc, _*_, _≤_, _<_}
 use native.Mathlib.Omega.{arith}
 use lib.Dec.{eqb}
-use lib.ListN.{length, getD}
+use lib.ListN.{length}
 use borrow.Author.Tests.{eqb-true}
 use Rattle.board.specs.Board.{count}
 use Rattle.sizes.specs.Size.{size}
 use Rattle.ranking.specs.Rank.{rank}
 use Rattle.ranking.specs.Unrank.{unrank}
-use Rattle.layout.specs.Layout.{start, tablebaseLength}
 use Rattle.game.specs.Game.{live, drawEntry, voidEntry, Depth, Entry}
 use Rattle.game.proofs.Depths.{NotBefore, before-or-not}
-use Rattle.game.proofs.Levels.{Fresh, Exact, exact-start, level-start, level-done}
+use Rattle.game.proofs.Levels.{Exact, exact-start, level-start, level-done}
 use Rattle.outcomes.specs.Places.{entryAt, successorEntry}
 use Rattle.outcomes.specs.Whole.{next}
 use Rattle.outcomes.specs.Pair.{pairSeed, LowerValid}
 use Rattle.outcomes.specs.Filled.{BothTables, Kept}
-use Rattle.outcomes.proofs.Ranked.{InTable, unrank-in, unrank-of, rank-in}
-use Rattle.outcomes.proofs.PairGame.{own, OnPair, InPair, on-pair, pair-table}
-use Rattle.outcomes.proofs.Entries.{entry-unrank, kept-then}
+use Rattle.outcomes.proofs.Ranked.{InTable, unrank-of, rank-in}
+use Rattle.outcomes.proofs.PairGame.{OnPair, InPair, on-pair}
+use Rattle.outcomes.proofs.Entries.{kept-then}
 use Rattle.outcomes.proofs.PairLevels.{Amid, pair-live, live-pair, pair-ground, pair-seeded, pair-entry}
 use Rattle.sweeping.specs.declared.tables.Table.{Table}
-use Rattle.sweeping.specs.Levels.{Fits, blockedFirst, swept}
-use Rattle.sweeping.specs.Marked.{levelled}
+use Rattle.sweeping.specs.Levels.{blockedFirst}
 use Rattle.solver.specs.Pairs.{pairFilled}
 use Rattle.solver.specs.Solve.{Setting}
-use Rattle.sweeping.proofs.LevelZero.{blocked-swept}
-use Rattle.sweeping.proofs.Visits.{Side, swept-kept, swept-table}
-use Rattle.sweeping.proofs.MarkedLevels.{levelled-kept, levelled-table}
+use Rattle.levels.proofs.LevelZero.{blocked-kept, blocked-table}
+use Rattle.levels.proofs.Sides.{Side, sizes}
 use Rattle.solver.proofs.Parts.{pair-kept, pair-filled}
 
 module _ (rings k m o : ℕ) (a b : Table) (before : List ℕ) (s : Setting (length before) rings k m o a b) (valid : LowerValid rings k m o before) where
@@ -104,57 +101,20 @@ module _ (rings k m o : ℕ) (a b : Table) (before : List ℕ) (s : Setting (len
       pub kept : Kept rings k (BothTables m o) before now
       pub amid : Amid rings k m o (s .pair) before valid level D now
 
-    level-room : (D : List ℕ → Type 0) (now : List ℕ) → AtLevel D now → length now ≡ tablebaseLength (8 * rings) k
-    level-room D now w = w .kept .same-length ∙ s .room
-
-    -- no entry of the pair is void
-    level-valid : (D : List ℕ → Type 0) (now : List ℕ) → AtLevel D now → (c : List ℕ) → InPair rings m o c → entryAt rings k now c ≡ voidEntry → ⊥
-    level-valid D now w c i v = go (before-or-not (next rings) (λ y. pairSeed rings k m o before y) level c)
-      where
-        seed-live : pairSeed rings k m o before c ≡ live
-        seed-live = pair-live rings k m o (s .pair) before valid c i
-
-        is : successorEntry rings k now c ≡ voidEntry
-        is = pair-entry rings k m o (s .pair) before valid now c i ∙ v
-
-        none : Fresh (next rings) (λ y. pairSeed rings k m o before y) (OnPair rings m o) level (successorEntry rings k now c) c → ⊥
-        none (inl e) = omega (arith, is)
-        none (inr e) = omega (arith, is, e .0)
-
-        go : ((j : ℕ) × (j < level) × Depth (next rings) (λ y. pairSeed rings k m o before y) j c)
-            ⊎ NotBefore (next rings) (λ y. pairSeed rings k m o before y) level c → ⊥
-        go (inl (j, l, d)) = omega (arith, is, w .amid .low c (on-pair i) seed-live j l d)
-        go (inr n) = none (w .amid .fresh c (on-pair i) seed-live n)
-
     -- one of the tables
     module _ (x y : ℕ) (t : Table) (same : ℕ) (side : Side rings k m o x y t same) (D : List ℕ → Type 0) (now : List ℕ) (w : AtLevel D now) where
       abbrev DoneToo : List ℕ → Type 0
       DoneToo c = D c ⊎ InTable rings x y c
 
-      sizes : size (8 * rings) (t .mover) (t .opponent) ≡ size (8 * rings) x y
-      sizes = ap₂ (size (8 * rings)) (side .located .mover-is) (side .located .opponent-is)
-
       pub blocked-step : level ≡ 0 → AtLevel DoneToo (blockedFirst rings t now (size (8 * rings) (t .mover) (t .opponent)))
-      blocked-step z = subst (AtLevel DoneToo) (sym is) record {
-        kept = kept-then rings k (BothTables m o) before now (swept rings t same (λ i. true) level now (size (8 * rings) x y)) (w .kept)
-            (swept-kept rings k m o (s .pair) x y t same side (λ i. true) level now (size (8 * rings) x y) (omega arith));
-        amid = swept-table rings k m o (s .pair) x y t same side before valid level low (λ i. true) D now (level-room D now w) (w .amid) (λ r h d. inl refl);
-      }
-        where
-          is : blockedFirst rings t now (size (8 * rings) (t .mover) (t .opponent)) ≡ swept rings t same (λ i. true) level now (size (8 * rings) x y)
-          is = blocked-swept rings t now same (size (8 * rings) (t .mover) (t .opponent))
-              ∙ ap₂ (λ (l n : ℕ). swept rings t same (λ i. true) l now n) (sym z) sizes
-
-      pub level-step : 0 < level → Fits (length now) rings t same → AtLevel DoneToo (levelled rings t same level now)
-      level-step pos fits = record {
-        kept = kept-then rings k (BothTables m o) before now (levelled rings t same level now) (w .kept)
-            (levelled-kept rings k m o (s .pair) x y t same side before valid level pos low now fits D (w .amid) (level-room D now w) valid-here);
-        amid = levelled-table rings k m o (s .pair) x y t same side before valid level pos low now fits D (w .amid) (level-room D now w) valid-here;
-      }
-        where
-          valid-here : (r : ℕ) → r < size (8 * rings) x y → getD now (t .own .start + r) 0 ≡ voidEntry → ⊥
-          valid-here r h e = level-valid D now w (unrank (8 * rings) x y r) (pair-table (side .both) (unrank-in rings x y r h))
-              (entry-unrank rings k x y r now h ∙ ap (λ (i : ℕ). getD now (i + r) 0) (sym (side .located .start-is)) ∙ e)
+      blocked-step z =
+          subst (λ (n : ℕ). AtLevel DoneToo (blockedFirst rings t now n)) (sym (sizes rings k m o (s .pair) x y t same side)) record {
+            kept = kept-then rings k (BothTables m o) before now (blockedFirst rings t now (size (8 * rings) x y)) (w .kept)
+                (blocked-kept rings k m o (s .pair) x y t same side now (size (8 * rings) x y) (omega arith));
+            amid = subst (λ (n : ℕ). Amid rings k m o (s .pair) before valid n DoneToo (blockedFirst rings t now (size (8 * rings) x y))) (sym z)
+                (blocked-table rings k m o (s .pair) x y t same side before valid D now (w .kept .same-length ∙ s .room)
+                (subst (λ (n : ℕ). Amid rings k m o (s .pair) before valid n D now) z (w .amid)));
+          }
 
     abbrev pub None : List ℕ → Type 0
     None c = ⊥

@@ -11,7 +11,7 @@ use Rattle.parts.specs.Parts.{partOf, filledPart, leastFrom}
 use Rattle.sweeping.specs.declared.tables.Part.{Part}
 use Rattle.sweeping.specs.declared.tables.Table.{Table}
 use Rattle.sweeping.specs.Levels.{blockedFirst, openDecided, Found}
-use Rattle.sweeping.specs.Marked.{levelled}
+use Rattle.sweeping.specs.Marked.{levelByClasses}
 
 -- both tables of a pair at level 0, or the one where they are the same
 unfoldable pub pairBlocked : ℕ → Table → Table → List ℕ → List ℕ
@@ -20,11 +20,11 @@ pairBlocked rings a b tablebase = elim (eqb (a .mover) (a .opponent)) [
   | false ↦ blockedFirst rings b (blockedFirst rings a tablebase (size (8 * rings) (a .mover) (a .opponent))) (size (8 * rings) (b .mover) (b .opponent))
 ]
 
--- and at a level above 0
-unfoldable pub pairLevelled : ℕ → Table → Table → ℕ → List ℕ → List ℕ
-pairLevelled rings a b level tablebase = elim (eqb (a .mover) (a .opponent)) [
-  | true ↦ levelled rings a (b .own .start) level tablebase
-  | false ↦ levelled rings b (a .own .start) level (levelled rings a (b .own .start) level tablebase)
+-- and at a level above 0, by classes
+unfoldable pub pairByClasses : ℕ → Table → Table → ℕ → ℕ → (List ℕ → Bool) → List ℕ → List ℕ
+pairByClasses rings a b level maps picked tablebase = elim (eqb (a .mover) (a .opponent)) [
+  | true ↦ levelByClasses rings a (b .own .start) level maps picked tablebase
+  | false ↦ levelByClasses rings b (a .own .start) level maps picked (levelByClasses rings a (b .own .start) level maps picked tablebase)
 ]
 
 -- an entry stands in the part of a table

@@ -2,7 +2,6 @@
 // one more than the least depth from the level on. The first level beyond the limit that writes anything shows a position that is too deep. Level
 // 65,534 is no entry: there one look decides.
 ghost use mathlib.Core.Path.{_≡_};
-ghost use mathlib.Core.Bool.{Bool};
 ghost use Prim.Native.Nat.{_*_, _≤_, _<_, min};
 ghost use lib.ListN.{length};
 ghost use Rattle.sizes.specs.Binomial.{BinomialTable};
@@ -10,7 +9,9 @@ ghost use Rattle.plies.specs.Masks.{NeighbourMasks, MillMasks};
 ghost use Rattle.game.specs.Game.{voidEntry};
 ghost use Rattle.outcomes.specs.Pair.{LowerValid};
 ghost use Rattle.sweeping.specs.Levels.{Lies, Fits};
-ghost use Rattle.solver.specs.Pairs.{PartIn, InRoom, Counted, Held, Beyond, PairHeld, pairBlocked, pairLevelled, pairFilled, pairLeast, PairFound};
+ghost use Rattle.invariance.specs.Used.{Used, LowerSymmetric};
+ghost use Rattle.imaging.specs.Images.{RingImages, leastOfClass};
+ghost use Rattle.solver.specs.Pairs.{PartIn, InRoom, Counted, Held, Beyond, PairHeld, pairBlocked, pairByClasses, pairFilled, pairLeast, PairFound};
 ghost use Rattle.solver.specs.Solve.{Setting, PairFill};
 use parts::DRAW;
 use parts::VOID;
@@ -43,7 +44,9 @@ fn level_pair(
     binomials: &[u32; 625],
     near: &[u32; 24],
     mills: &[u32; 48],
+    images: &[u8; 2048],
     rings: usize,
+    maps: usize,
     first: Table,
     second: Table,
     level: u16,
@@ -52,8 +55,8 @@ fn level_pair(
     requires { ⌜ NeighbourMasks rings (now near) ⌝ }
     requires { ⌜ MillMasks rings (now mills) ⌝ }
     requires { ⌜ Fits (length (now tablebase)) rings first (second .own .start) × Counted first × Fits (length (now tablebase)) rings second (first .own .start)
-        × Counted second × (0 < level) × (level < voidEntry) ⌝ }
-    ensures { λ _. ⌜ now (tablebase .exit) ≡ pairLevelled rings first second level (now (tablebase .entry)) ⌝ }
+        × Counted second × (0 < level) × (level < voidEntry) × RingImages (now images) × (maps ≤ 16) ⌝ }
+    ensures { λ _. ⌜ now (tablebase .exit) ≡ pairByClasses rings first second level maps (leastOfClass rings maps) (now (tablebase .entry)) ⌝ }
 {
     let one = first.own;
     let two = second.own;
@@ -62,7 +65,9 @@ fn level_pair(
         binomials,
         near,
         mills,
+        images,
         rings,
+        maps,
         first,
         two.start,
         level,
@@ -73,7 +78,9 @@ fn level_pair(
             binomials,
             near,
             mills,
+            images,
             rings,
+            maps,
             second,
             one.start,
             level,
@@ -191,7 +198,9 @@ pub fn solve_tables(
     binomials: &[u32; 625],
     near: &[u32; 24],
     mills: &[u32; 48],
+    images: &[u8; 2048],
     rings: usize,
+    maps: usize,
     k: usize,
     first: Table,
     second: Table,
@@ -201,7 +210,8 @@ pub fn solve_tables(
     requires { ⌜ NeighbourMasks rings (now near) ⌝ }
     requires { ⌜ MillMasks rings (now mills) ⌝ }
     requires { ⌜ Setting (length (now tablebase)) rings k (first .mover) (first .opponent) first second ⌝ }
-    requires { ⌜ LowerValid rings k (first .mover) (first .opponent) (now tablebase) × (limit < voidEntry) ⌝ }
+    requires { ⌜ LowerValid rings k (first .mover) (first .opponent) (now tablebase) × (limit < voidEntry)
+        × RingImages (now images) × Used maps × LowerSymmetric maps rings k (first .mover) (first .opponent) (now tablebase) ⌝ }
     ensures { λ deep. ⌜ PairFill rings k (first .mover) (first .opponent) limit (now (tablebase .entry)) (now (tablebase .exit)) deep ⌝ }
 {
     fill_pair(tablebase, first, second, DRAW);
@@ -213,7 +223,9 @@ pub fn solve_tables(
             binomials,
             near,
             mills,
+            images,
             rings,
+            maps,
             first,
             second,
             level,

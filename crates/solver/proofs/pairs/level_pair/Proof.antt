@@ -3,7 +3,8 @@ use mathlib.Core.Path.{sym, ap, subst, _∙_}
 use Prim.Native.Nat.{ℕ}
 use lib.ListN.{length}
 use Rattle.sweeping.specs.Levels.{Fits}
-use Rattle.sweeping.proofs.MarkedLevels.{levelled-length}
+use Rattle.imaging.specs.Images.{leastOfClass}
+use Rattle.sweeping.proofs.Sought.{level-length}
 use Rattle.solver.proofs.PairSteps.{level-once, level-twice}
 use borrow.Author.Needs.{needs}
 use Rattle.solver.proofs.pairs.level_pair.Statement.{statement}
@@ -13,7 +14,7 @@ level-table-requires : tie.Need-level-table-requires
 level-table-requires c κs =
     let s = c .before .before .before .before in
     let p = s .pre .1 .1 .1 in
-    (s .pre .0, (s .pre .1 .0, (s .pre .1 .1 .0, (p .0, p .1 .0, p .1 .1, p .1 .2, p .4, p .5))))
+    (s .pre .0, (s .pre .1 .0, (s .pre .1 .1 .0, (p .0, p .1 .0, p .1 .1, p .1 .2, p .4, p .5, p .6, p .7))))
 
 level-table-requires-2 : tie.Need-level-table-requires-2
 level-table-requires-2 c κs =
@@ -21,7 +22,7 @@ level-table-requires-2 c κs =
     let a = s .args in
     let p = s .pre .1 .1 .1 in
     let e = ap length (c .before .before .before .before .before .level-table .ensures)
-    ∙ levelled-length (a .rings) (a .first) (a .second .own .start) (a .level) (p .5) (p .1 .1) (a .tablebase .now) (p .0) in (
+    ∙ level-length (a .rings) (a .first) (a .second .own .start) (a .level) (a .maps) (leastOfClass (a .rings) (a .maps)) (a .tablebase .now) in (
       s .pre .0,
       (
         s .pre .1 .0,
@@ -34,6 +35,8 @@ level-table-requires-2 c κs =
             p .3 .2,
             p .4,
             p .5,
+            p .6,
+            p .7,
           ),
         ),
       ),
@@ -47,7 +50,7 @@ returns c =
     let k = c .before .before .before .before .before .before .before .before in
     let a = k .before .before .before .before .before .args in
     c .before .before .level-table2 .ensures
-    ∙ level-twice (a .rings) (a .first) (a .second) (a .tablebase .now) (k .level-table .last .0) (a .level) (k .level-table .ensures)
+    ∙ level-twice (a .rings) (a .first) (a .second) (a .tablebase .now) (k .level-table .last .0) (a .level) (a .maps) (leastOfClass (a .rings) (a .maps)) (k .level-table .ensures)
     (c .before .before .before .before .if1 .taken)
 
 same-length-2 : tie.Need-same-length-2
@@ -57,7 +60,7 @@ returns-2 : tie.Need-returns-2
 returns-2 c =
     let k = c .before .before .before .before in
     let a = k .before .before .before .before .before .args in
-    level-once (a .rings) (a .first) (a .second) (a .tablebase .now) (k .level-table .last .0) (a .level) (k .level-table .ensures) (c .if1 .left)
+    level-once (a .rings) (a .first) (a .second) (a .tablebase .now) (k .level-table .last .0) (a .level) (a .maps) (leastOfClass (a .rings) (a .maps)) (k .level-table .ensures) (c .if1 .left)
 
 pub level-pair-spec : {M : Type 1} → statement M
 level-pair-spec =

@@ -13,19 +13,24 @@ use Rattle.solver.proofs.Parts.{first-lies, second-lies, first-fits, se
 use Rattle.solver.proofs.States.{ExactBelow, State, state-start}
 use Rattle.solver.proofs.NextLevel.{in-room, setting-now, state-next}
 use Rattle.solver.proofs.PairSteps.{least-void}
-use Rattle.solver.proofs.PairStates.{after-blocked, after-level, beyond-limit, within-limit}
+use Rattle.invariance.specs.Used.{LowerSymmetric}
+use Rattle.invariance.proofs.Groups.{group-of}
+use Rattle.imaging.specs.Images.{number, leastOfClass}
+use Rattle.imaging.proofs.Picked.{least-picks}
+use Rattle.solver.proofs.PairClasses.{after-classes}
+use Rattle.solver.proofs.PairStates.{after-blocked, beyond-limit, within-limit}
 use Rattle.solver.proofs.Answered.{all-true, nothing-decided, one-decided, voided}
 use Rattle.solver.proofs.pairs.solve_tables.Statement.{statement}
 use Rattle.solver.proofs.pairs.solve_tables.Tie as tie
 
 abbrev Inv-loop : tie.InvT-loop
-Inv-loop tablebase₀ binomials near mills rings k first second limit level₀ tablebase level =
+Inv-loop tablebase₀ binomials near mills images rings maps k first second limit level₀ tablebase level =
     (before : List ℕ) (s : Setting (length before) rings k (first .mover) (first .opponent) first second)
-    (valid : LowerValid rings k (first .mover) (first .opponent) before) → tablebase₀ ≡ pairBlocked rings first second (pairFilled first second drawEntry before)
+    (valid : LowerValid rings k (first .mover) (first .opponent) before) → LowerSymmetric maps rings k (first .mover) (first .opponent) before → tablebase₀ ≡ pairBlocked rings first second (pairFilled first second drawEntry before)
     → (0 < level) × State rings k (first .mover) (first .opponent) first second before s valid limit level tablebase
 
 abbrev μ-loop : tie.MeasureT-loop
-μ-loop tablebase₀ binomials near mills rings k first second limit level₀ tablebase level = voidEntry - level
+μ-loop tablebase₀ binomials near mills images rings maps k first second limit level₀ tablebase level = voidEntry - level
 
 -- the entry of the function, seen from the loop
 abbrev entered : tie.At-loop Inv-loop μ-loop → tie.Start Inv-loop μ-loop
@@ -38,7 +43,7 @@ state : (x : tie.At-loop Inv-loop μ-loop) → (0 < x .loop .level) × State (en
 state x =
     let s = entered x in
     let a = s .args in
-    x .loop .inv (a .tablebase .now) (s .pre .1 .1 .1 .0) (s .pre .1 .1 .1 .1 .0)
+    x .loop .inv (a .tablebase .now) (s .pre .1 .1 .1 .0) (s .pre .1 .1 .1 .1 .0) (s .pre .1 .1 .1 .1 .4)
     (x .before .before .before .sweep-pair .ensures
     ∙ ap (pairBlocked (a .rings) (a .first) (a .second)) (x .before .before .before .before .before .before .before .fill-pair .ensures))
 
@@ -52,6 +57,8 @@ module _ (c : tie.After-level-pair Inv-loop μ-loop) (before : List ℕ)
     (entered (c .before .before .before) .args .first .mover) (entered (c .before .before .before) .args .first .opponent)
     (entered (c .before .before .before) .args .first) (entered (c .before .before .before) .args .second))
     (valid : LowerValid (entered (c .before .before .before) .args .rings) (entered (c .before .before .before) .args .k)
+    (entered (c .before .before .before) .args .first .mover) (entered (c .before .before .before) .args .first .opponent) before)
+    (mirrored : LowerSymmetric (entered (c .before .before .before) .args .maps) (entered (c .before .before .before) .args .rings) (entered (c .before .before .before) .args .k)
     (entered (c .before .before .before) .args .first .mover) (entered (c .before .before .before) .args .first .opponent) before)
     (st : State (entered (c .before .before .before) .args .rings) (entered (c .before .before .before) .args .k)
     (entered (c .before .before .before) .args .first .mover) (entered (c .before .before .before) .args .first .opponent)
@@ -67,8 +74,10 @@ module _ (c : tie.After-level-pair Inv-loop μ-loop) (before : List ℕ)
   levelled =
       let x = c .before .before .before in
       let a = entered x .args in
-      after-level (a .rings) (a .k) (a .first .mover) (a .first .opponent) (a .first) (a .second) before s valid (a .limit) (x .loop .level)
-      (state x .0) (c .before .before .loop-test .taken) (x .loop .tablebase) st (c .level-pair .last .0) (c .level-pair .ensures)
+      let g = group-of (a .maps) (entered x .pre .1 .1 .1 .1 .3) in
+      after-classes (a .rings) (a .k) (a .first .mover) (a .first .opponent) (a .first) (a .second) before s valid (a .maps) g mirrored
+      (leastOfClass (a .rings) (a .maps)) (least-picks (λ b. number b) (a .rings) (s .pair .small) (a .maps) g) (x .loop .level)
+      (state x .0) (c .before .before .loop-test .taken) (a .limit) (x .loop .tablebase) st (c .level-pair .last .0) (c .level-pair .ensures)
 
 -- the tables are where they were
 there : (c : tie.After-level-pair Inv-loop μ-loop) → Setting (length (c .level-pair .last .0)) (entered (c .before .before .before) .args .rings)
@@ -79,7 +88,7 @@ there c =
     let x = c .before .before .before in
     let s = entered x in
     setting-now (length (c .level-pair .last .0))
-    (levelled c (s .args .tablebase .now) (s .pre .1 .1 .1 .0) (s .pre .1 .1 .1 .1 .0) (state x .1) .0 .same-length) (s .pre .1 .1 .1 .0)
+    (levelled c (s .args .tablebase .now) (s .pre .1 .1 .1 .0) (s .pre .1 .1 .1 .1 .0) (s .pre .1 .1 .1 .1 .4) (state x .1) .0 .same-length) (s .pre .1 .1 .1 .0)
 
 fill-pair-requires : tie.Need-fill-pair-requires Inv-loop μ-loop
 fill-pair-requires c κs = in-room (c .before .before .pre .1 .1 .1 .0)
@@ -97,7 +106,7 @@ sweep-pair-requires c κs =
 loop-holds : tie.Need-loop-holds Inv-loop μ-loop
 loop-holds c =
     let a = c .before .before .before .before .before .before .before .before .before .args in
-    λ before s valid e. (
+    λ before s valid mirrored e. (
       omega arith,
       after-blocked (a .rings) (a .k) (a .first .mover) (a .first .opponent) (a .first) (a .second) before s valid (a .limit) _
           (state-start (a .rings) (a .k) (a .first .mover) (a .first .opponent) (a .first) (a .second) before s valid (a .limit)) _ e,
@@ -111,7 +120,7 @@ level-pair-requires c κs =
       s .pre .0,
       (
         s .pre .1 .0,
-        (s .pre .1 .1 .0, (first-fits w, first-counted w, second-fits w, second-counted w, state x .0, c .before .loop-test .taken)),
+        (s .pre .1 .1 .0, (first-fits w, first-counted w, second-fits w, second-counted w, state x .0, c .before .loop-test .taken, s .pre .1 .1 .1 .1 .2, group-of (s .args .maps) (s .pre .1 .1 .1 .1 .3) .high)),
       ),
     )
 
@@ -128,7 +137,7 @@ returns c =
     let x = l .before .before .before in
     let s = entered x in
     let a = s .args in
-    let w = levelled l (a .tablebase .now) (s .pre .1 .1 .1 .0) (s .pre .1 .1 .1 .1 .0) (state x .1) in
+    let w = levelled l (a .tablebase .now) (s .pre .1 .1 .1 .0) (s .pre .1 .1 .1 .1 .0) (s .pre .1 .1 .1 .1 .4) (state x .1) in
     voided (a .rings) (a .k) (a .first .mover) (a .first .opponent) (a .first) (a .second) (a .tablebase .now) (l .level-pair .last .0)
     (c .before .before .fill-pair2 .last .0) (s .pre .1 .1 .1 .0) (w .0) (a .limit) _
     (beyond-limit (a .rings) (a .k) (a .first .mover) (a .first .opponent) (a .first) (a .second) (a .tablebase .now) (s .pre .1 .1 .1 .0)
@@ -164,18 +173,20 @@ stepped : (c : tie.After-pair-least Inv-loop μ-loop) (before : List ℕ)
     (entered (c .before .before .before .before .before .before .before .before .before .before) .args .k)
     (entered (c .before .before .before .before .before .before .before .before .before .before) .args .first .mover)
     (entered (c .before .before .before .before .before .before .before .before .before .before) .args .first .opponent) before)
+    → LowerSymmetric (entered (c .before .before .before .before .before .before .before .before .before .before) .args .maps) (entered (c .before .before .before .before .before .before .before .before .before .before) .args .rings) (entered (c .before .before .before .before .before .before .before .before .before .before) .args .k)
+    (entered (c .before .before .before .before .before .before .before .before .before .before) .args .first .mover) (entered (c .before .before .before .before .before .before .before .before .before .before) .args .first .opponent) before
     → State _ _ _ _ _ _ before s valid (entered (c .before .before .before .before .before .before .before .before .before .before) .args .limit)
     (c .before .before .before .before .before .before .before .before .before .before .loop .level)
     (c .before .before .before .before .before .before .before .before .before .before .loop .tablebase)
     → (c .before .before .before .before .before .before .before .before .before .before .loop .level < 1 + c .pair-least .result)
     × State _ _ _ _ _ _ before s valid (entered (c .before .before .before .before .before .before .before .before .before .before) .args .limit)
     (1 + c .pair-least .result) (c .before .before .before .before .before .before .before .level-pair .last .0)
-stepped c before s valid st =
+stepped c before s valid mirrored st =
     let e = c .before .before in
     let l = e .before .before .before .before .before in
     let x = l .before .before .before in
     let a = entered x .args in
-    let w = levelled l before s valid st in
+    let w = levelled l before s valid mirrored st in
     state-next (a .rings) (a .k) (a .first .mover) (a .first .opponent) (a .first) (a .second) before s valid (a .limit) (x .loop .level) (state x .0)
     (l .before .before .loop-test .taken) (l .level-pair .last .0) (w .0) (w .1)
     (within-limit (a .rings) (a .k) (a .first .mover) (a .first .opponent) (a .first) (a .second) before s valid (a .limit) (x .loop .level) (state x .0)
@@ -188,13 +199,13 @@ loop-less c =
     let l = c .before .before .before .before .before .before .before in
     let x = l .before .before .before in
     let s = entered x in
-    let n = stepped c (s .args .tablebase .now) (s .pre .1 .1 .1 .0) (s .pre .1 .1 .1 .1 .0) (state x .1) in
+    let n = stepped c (s .args .tablebase .now) (s .pre .1 .1 .1 .0) (s .pre .1 .1 .1 .1 .0) (s .pre .1 .1 .1 .1 .4) (state x .1) in
     omega (arith, n .0, l .before .before .loop-test .taken)
 
 loop-again : tie.Need-loop-again Inv-loop μ-loop
 loop-again c =
     let x = c .before .before .before .before .before .before .before .before .before .before in
-    λ before s valid e. let n = stepped c before s valid (x .loop .inv before s valid e .1) in (omega (arith, n .0), n .1)
+    λ before s valid mirrored e. let n = stepped c before s valid mirrored (x .loop .inv before s valid mirrored e .1) in (omega (arith, n .0), n .1)
 
 same-length-2 : tie.Need-same-length-2 Inv-loop μ-loop
 same-length-2 c = state (c .before .before) .1 .kept .same-length

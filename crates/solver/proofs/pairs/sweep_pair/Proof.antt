@@ -4,7 +4,7 @@ use Prim.Native.Nat.{ℕ, _*_}
 use lib.ListN.{length}
 use Rattle.sizes.specs.Size.{size}
 use Rattle.sweeping.specs.Levels.{Lies}
-use Rattle.sweeping.proofs.LevelZero.{blocked-lengths}
+use Rattle.sweeping.proofs.Blocked.{blocked-lengths}
 use Rattle.solver.proofs.PairSteps.{blocked-once, blocked-twice}
 use borrow.Author.Needs.{needs}
 use Rattle.solver.proofs.pairs.sweep_pair.Statement.{statement}

@@ -10,25 +10,30 @@ use Rattle.outcomes.proofs.TrueTables.{true-whole, deep-void}
 use Rattle.outcomes.proofs.Order.{done-first, done-all}
 use Rattle.parts.proofs.Filling.{filled-length, filled-in}
 use Rattle.solver.specs.Solve.{PairsFilled}
+use borrow.Author.Needs.{needs}
 use Rattle.solver.proofs.whole.solve_all.Statement.{statement}
 use Rattle.solver.proofs.whole.solve_all.Tie as tie
 
 abbrev Inv-loop : tie.InvT-loop
-Inv-loop tablebase₀ binomials near mills rings k limit m₀ tablebase m =
+Inv-loop tablebase₀ binomials near mills images rings k limit maps m₀ tablebase m =
     (3 ≤ m) × (m ≤ k + 1) × (length tablebase ≡ length tablebase₀) × TrueOn rings k limit (Before m 3) tablebase
 
 abbrev μ-loop : tie.MeasureT-loop
-μ-loop tablebase₀ binomials near mills rings k limit m₀ tablebase m = k + 1 - m
+μ-loop tablebase₀ binomials near mills images rings k limit maps m₀ tablebase m = k + 1 - m
+
+-- the entry of the function, seen from the loop
+abbrev entered : tie.At-loop Inv-loop μ-loop → tie.Start Inv-loop μ-loop
+entered x = x .before .before .before
 
 loop-holds : tie.Need-loop-holds Inv-loop μ-loop
 loop-holds c =
-    let s = c .before in
+    let s = c .before .before in
     (omega arith, omega (arith, s .pre .1 .1 .1 .1), refl, done-first (s .args .rings) (s .args .k) (s .args .limit) (s .args .tablebase .now))
 
 solve-row-requires : tie.Need-solve-row-requires Inv-loop μ-loop
 solve-row-requires c κs =
     let x = c .before .before in
-    let s = x .before .before in
+    let s = entered x in
     let h = s .pre .1 .1 .1 in (
       s .pre .0,
       (
@@ -47,11 +52,14 @@ solve-row-requires c κs =
               h .2,
               x .loop .inv .2 ∙ h .3,
             ),
-            (x .loop .inv .3, h .4),
+            (x .loop .inv .3, h .4, h .5, x .before .all-maps .ensures),
           ),
         ),
       ),
     )
+
+all-maps-requires : tie.Need-all-maps-requires Inv-loop μ-loop
+all-maps-requires c κs = search needs
 
 fill-table-requires : tie.Need-fill-table-requires Inv-loop μ-loop
 fill-table-requires c κs = (omega arith, omega arith)
@@ -76,7 +84,7 @@ same-length c = voided c .0 ∙ c .before .before .before .before .before .befor
 returns : tie.Need-returns Inv-loop μ-loop
 returns c =
     let x = c .before .before .before .before .before .before .before .before .before .before in
-    let s = x .before .before in
+    let s = entered x in
     let after = c .before .before .fill-table .last .0 in
     deep-void (s .args .rings) (s .args .k) (s .args .limit) (s .args .tablebase .now) after (s .pre .1 .1 .1 .3) (same-length c)
     (subst (PairsFilled (s .args .rings) (s .args .k) (s .args .limit) (x .loop .m + 1) 3
@@ -88,7 +96,7 @@ add-m : tie.Need-add-m Inv-loop μ-loop
 add-m c = omega (
   arith,
   c .before .before .before .before .before .loop-test .taken,
-  c .before .before .before .before .before .before .before .before .pre .1 .1 .1 .2,
+  entered (c .before .before .before .before .before .before) .pre .1 .1 .1 .2,
 )
 
 loop-less : tie.Need-loop-less Inv-loop μ-loop
@@ -97,7 +105,7 @@ loop-less c = omega (arith, c .before .before .before .before .before .loop-test
 loop-again : tie.Need-loop-again Inv-loop μ-loop
 loop-again c =
     let x = c .before .before .before .before .before .before in
-    let s = x .before .before in
+    let s = entered x in
     let e = c .before .before .before .solve-row .ensures in (
       omega (arith, x .loop .inv .0),
       omega (arith, c .before .before .before .before .before .loop-test .taken),
@@ -111,7 +119,7 @@ same-length-2 c = c .before .loop .inv .2
 returns-2 : tie.Need-returns-2 Inv-loop μ-loop
 returns-2 c =
     let x = c .before in
-    let s = x .before .before in
+    let s = entered x in
     let e : x .loop .m ≡ s .args .k + 1 = omega (arith, c .loop-test .left, x .loop .inv .1) in
     true-whole (s .args .rings) (s .args .k) (s .args .limit) (s .args .tablebase .now) (x .loop .tablebase) (s .pre .1 .1 .1 .3) (x .loop .inv .2)
     (done-all (s .args .rings) (s .args .k) (s .args .limit) (x .loop .tablebase)
@@ -123,6 +131,7 @@ solve-all-spec =
     (tie.spec
     Inv-loop
     μ-loop
+    all-maps-requires
     loop-holds
     solve-row-requires
     fill-table-requires

@@ -3,6 +3,7 @@ use mathlib.Core.Path.{_≡_, sym, subst}
 use Prim.Native.Nat.{ℕ}
 use lib.ListN.{length}
 use Rattle.outcomes.specs.Pair.{LowerValid}
+use Rattle.invariance.specs.Used.{LowerSymmetric}
 use Rattle.solver.specs.Solve.{Setting, PairFill}
 use borrow.Author.Needs.{needs}
 use Rattle.solver.proofs.whole.solve_pair.Statement.{statement}
@@ -38,7 +39,13 @@ solve-tables-requires c κs =
             by-counts (λ x y. Setting (length (a .tablebase .now)) (a .rings) (a .k) x y (c .before .before .table-of .result)
                 (c .before .table-of2 .result)) (t .mover-is) (t .opponent-is)
                 record { pair = s .pre .1 .1 .1 .0 .0; few = s .pre .1 .1 .1 .0 .1; room = s .pre .1 .1 .1 .0 .2; first = t; second = c .before .table-of2 .ensures },
-            (by-counts (λ x y. LowerValid (a .rings) (a .k) x y (a .tablebase .now)) (t .mover-is) (t .opponent-is) (s .pre .1 .1 .1 .1 .0), s .pre .1 .1 .1 .1 .1),
+            (
+              by-counts (λ x y. LowerValid (a .rings) (a .k) x y (a .tablebase .now)) (t .mover-is) (t .opponent-is) (s .pre .1 .1 .1 .1 .0),
+              s .pre .1 .1 .1 .1 .1,
+              s .pre .1 .1 .1 .1 .2,
+              s .pre .1 .1 .1 .1 .3,
+              by-counts (λ x y. LowerSymmetric (a .maps) (a .rings) (a .k) x y (a .tablebase .now)) (t .mover-is) (t .opponent-is) (s .pre .1 .1 .1 .1 .4),
+            ),
           ),
         ),
       ),

@@ -7,16 +7,19 @@ use Rattle.outcomes.specs.Pair.{Pair}
 use Rattle.outcomes.specs.Order.{TrueOn, Before}
 use Rattle.outcomes.proofs.PairTrue.{lower-valid}
 use Rattle.outcomes.proofs.Order.{done-lower, done-pair, deep-whole, done-row}
+use mathlib.Core.Logic.{inr}
+use Rattle.invariance.proofs.Groups.{group-of}
+use Rattle.invariance.proofs.TrueSymmetric.{lower-true-symmetric}
 use Rattle.solver.specs.Solve.{PairFill}
 use Rattle.solver.proofs.whole.solve_row.Statement.{statement}
 use Rattle.solver.proofs.whole.solve_row.Tie as tie
 
 abbrev Inv-loop : tie.InvT-loop
-Inv-loop tablebase₀ binomials near mills rings k m limit o₀ tablebase o =
+Inv-loop tablebase₀ binomials near mills images rings maps k m limit o₀ tablebase o =
     (3 ≤ o) × (o ≤ m + 1) × (length tablebase ≡ length tablebase₀) × TrueOn rings k limit (Before m o) tablebase
 
 abbrev μ-loop : tie.MeasureT-loop
-μ-loop tablebase₀ binomials near mills rings k m limit o₀ tablebase o = m + 1 - o
+μ-loop tablebase₀ binomials near mills images rings maps k m limit o₀ tablebase o = m + 1 - o
 
 -- the entry of the function, seen from the loop
 abbrev entered : tie.At-loop Inv-loop μ-loop → tie.Start Inv-loop μ-loop
@@ -55,6 +58,11 @@ solve-pair-requires c κs =
                   (x .loop .tablebase)
                   (x .loop .inv .3)),
               s .pre .1 .1 .1 .1 .1,
+              s .pre .1 .1 .1 .1 .2,
+              s .pre .1 .1 .1 .1 .3,
+              lower-true-symmetric (s .args .rings) (s .args .k) (s .args .m) (x .loop .o) (p .small) (x .loop .tablebase)
+                  (done-lower (s .args .rings) (s .args .k) (s .args .m) (x .loop .o) p (c .before .loop-test .taken) (s .args .limit) (x .loop .tablebase)
+                  (x .loop .tablebase) (x .loop .inv .3)) (s .args .maps) (group-of (s .args .maps) (s .pre .1 .1 .1 .1 .3)),
             ),
           ),
         ),
