@@ -231,11 +231,13 @@ pub fn fill(rings: u8, k: u8, limit: u32, tablebase: &mut [u16]) -> Solved
     }
     let near = plies::neighbour_masks(rings as usize);
     let mills = plies::mill_masks(rings as usize);
+    let images = imaging::ring_images();
     if solver::solve_all(
         tablebase,
         &binomials,
         &near,
         &mills,
+        &images,
         rings as usize,
         k as usize,
         limit as u16,
@@ -277,11 +279,13 @@ pub fn fill_pair(
     }
     let near = plies::neighbour_masks(rings as usize);
     let mills = plies::mill_masks(rings as usize);
-    if solver::solve_pair(
+    let images = imaging::ring_images();
+    if solver::solve_given(
         tablebase,
         &binomials,
         &near,
         &mills,
+        &images,
         rings as usize,
         k as usize,
         m,

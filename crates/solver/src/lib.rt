@@ -4,4 +4,4 @@ mod whole;
 
 pub use whole::lower_void;
 pub use whole::solve_all;
-pub use whole::solve_pair;
+pub use whole::solve_given;

@@ -38,7 +38,7 @@ pub fn lower_void(
 
 // Fills the pair (m, o) and (o, m) by a number of maps under which its lower tables are symmetric, or answers that some position is too deep and leaves
 // both tables void.
-pub fn solve_pair(
+fn solve_pair(
     tablebase: &mut [u16],
     binomials: &[u32; 625],
     near: &[u32; 24],
@@ -72,6 +72,41 @@ pub fn solve_pair(
         k,
         first,
         second,
+        limit,
+    )
+}
+
+// Fills the pair (m, o) and (o, m) over any lower tables that hold no void.
+pub fn solve_given(
+    tablebase: &mut [u16],
+    binomials: &[u32; 625],
+    near: &[u32; 24],
+    mills: &[u32; 48],
+    images: &[u8; 2048],
+    rings: usize,
+    k: usize,
+    m: usize,
+    o: usize,
+    limit: u16,
+) -> bool
+    requires { ⌜ BinomialTable (now binomials) ⌝ }
+    requires { ⌜ NeighbourMasks rings (now near) ⌝ }
+    requires { ⌜ MillMasks rings (now mills) ⌝ }
+    requires { ⌜ Pair rings k m o × (k ≤ 9) × (length (now tablebase) ≡ tablebaseLength (8 * rings) k) ⌝ }
+    requires { ⌜ LowerValid rings k m o (now tablebase) × (limit < voidEntry) × RingImages (now images) ⌝ }
+    ensures { λ deep. ⌜ PairFill rings k m o limit (now (tablebase .entry)) (now (tablebase .exit)) deep ⌝ }
+{
+    solve_pair(
+        tablebase,
+        binomials,
+        near,
+        mills,
+        images,
+        rings,
+        1,
+        k,
+        m,
+        o,
         limit,
     )
 }

@@ -43,18 +43,21 @@ neighbour-masks-requires c κs = known c .tablebase .rings-high
 mill-masks-requires : tie.Need-mill-masks-requires
 mill-masks-requires c κs = let w = known (c .before) in (w .tablebase .rings-low, w .tablebase .rings-high)
 
+ring-images-requires : tie.Need-ring-images-requires
+ring-images-requires c κs = search needs
+
 cast-solve-all : tie.Need-cast-solve-all
-cast-solve-all c = omega (arith, known (c .before .before .before .before .before .before) .limit-high)
+cast-solve-all c = omega (arith, known (c .before .before .before .before .before .before .before .before) .limit-high)
 
 solve-all-requires : tie.Need-solve-all-requires
 solve-all-requires c κs =
-    let w = known (c .before .before .before .before .before .before) in (
-      c .before .before .before .before .before .before .before .before .before .binomial-table .ensures,
+    let w = known (c .before .before .before .before .before .before .before .before) in (
+      c .before .before .before .before .before .before .before .before .before .before .before .binomial-table .ensures,
       (
-        c .before .before .before .before .before .neighbour-masks .ensures,
+        c .before .before .before .before .before .before .before .neighbour-masks .ensures,
         (
-          c .before .before .before .before .mill-masks .ensures,
-          (w .tablebase .rings-high, w .tablebase .largest-low, w .tablebase .largest-high, w .tablebase .exact, omega (arith, w .limit-high)),
+          c .before .before .before .before .before .before .mill-masks .ensures,
+          (w .tablebase .rings-high, w .tablebase .largest-low, w .tablebase .largest-high, w .tablebase .exact, omega (arith, w .limit-high), c .before .before .before .before .before .ring-images .ensures),
         ),
       ),
     )
@@ -64,10 +67,10 @@ same-length c = search needs
 
 returns-2 : tie.Need-returns-2
 returns-2 c =
-    let a = c .before .before .before .before .before .before .before .before .before .before .before .before .before .before .before .args in
+    let a = c .before .before .before .before .before .before .before .before .before .before .before .before .before .before .before .before .before .args in
     promise-deep (fillPicks (a .rings) (a .k) (a .limit) (length (a .tablebase .now))) (fill-last (a .rings) (a .k) (a .limit) (length (a .tablebase .now)))
     (λ (deep : Bool). WholeFill (a .rings) (a .k) (a .limit) (a .tablebase .now) (c .before .before .before .solve-all .last .0) deep) (a .tablebase .now)
-    (c .before .before .before .solve-all .last .0) (none (c .before .before .before .before .before .before .before .before .before .before))
+    (c .before .before .before .solve-all .last .0) (none (c .before .before .before .before .before .before .before .before .before .before .before .before))
     (subst (λ (deep : Bool). WholeFill (a .rings) (a .k) (a .limit) (a .tablebase .now) (c .before .before .before .solve-all .last .0) deep) (c .if2 .taken)
     (c .before .before .before .solve-all .ensures))
 
@@ -76,10 +79,10 @@ same-length-2 c = search needs
 
 returns-3 : tie.Need-returns-3
 returns-3 c =
-    let a = c .before .before .before .before .before .before .before .before .before .before .before .before .before .before .before .args in
+    let a = c .before .before .before .before .before .before .before .before .before .before .before .before .before .before .before .before .before .args in
     promise-filled (fillPicks (a .rings) (a .k) (a .limit) (length (a .tablebase .now))) (fill-last (a .rings) (a .k) (a .limit) (length (a .tablebase .now)))
     (λ (deep : Bool). WholeFill (a .rings) (a .k) (a .limit) (a .tablebase .now) (c .before .before .before .solve-all .last .0) deep) (a .tablebase .now)
-    (c .before .before .before .solve-all .last .0) (none (c .before .before .before .before .before .before .before .before .before .before))
+    (c .before .before .before .solve-all .last .0) (none (c .before .before .before .before .before .before .before .before .before .before .before .before))
     (subst (λ (deep : Bool). WholeFill (a .rings) (a .k) (a .limit) (a .tablebase .now) (c .before .before .before .solve-all .last .0) deep) (c .if2 .left)
     (c .before .before .before .solve-all .ensures))
 
@@ -92,6 +95,7 @@ fill-spec =
     returns
     neighbour-masks-requires
     mill-masks-requires
+    ring-images-requires
     cast-solve-all
     solve-all-requires
     same-length

@@ -91,27 +91,31 @@ neighbour-masks-requires c κs = known (c .before .before .before .before) .tabl
 mill-masks-requires : tie.Need-mill-masks-requires
 mill-masks-requires c κs = let w = known (c .before .before .before .before .before) in (w .tablebase .rings-low, w .tablebase .rings-high)
 
-cast-solve-pair : tie.Need-cast-solve-pair
-cast-solve-pair c = omega (arith, known (c .before .before .before .before .before .before .before .before .before .before) .limit-high)
+ring-images-requires : tie.Need-ring-images-requires
+ring-images-requires c κs = search needs
 
-solve-pair-requires : tie.Need-solve-pair-requires
-solve-pair-requires c κs =
-    let x = c .before .before .before .before .before .before .before .before .before .before in
+cast-solve-given : tie.Need-cast-solve-given
+cast-solve-given c = omega (arith, known (c .before .before .before .before .before .before .before .before .before .before .before .before) .limit-high)
+
+solve-given-requires : tie.Need-solve-given-requires
+solve-given-requires c κs =
+    let x = c .before .before .before .before .before .before .before .before .before .before .before .before in
     let a = entered x .args in
     let w = known x in (
-      c .before .before .before .before .before .before .before .before .before .before .before .before .before .binomial-table .ensures,
+      c .before .before .before .before .before .before .before .before .before .before .before .before .before .before .before .binomial-table .ensures,
       (
-        c .before .before .before .before .before .neighbour-masks .ensures,
+        c .before .before .before .before .before .before .before .neighbour-masks .ensures,
         (
-          c .before .before .before .before .mill-masks .ensures,
+          c .before .before .before .before .before .before .mill-masks .ensures,
           (
             (is-pair x, w .tablebase .largest-high, w .tablebase .exact),
             (
               void-free (a .rings) (a .k) (a .tablebase .now) (w .tablebase .exact)
                   (λ i. omega (arith, x .before .before .before .before .slice-known .given i)) (a .mover) (a .opponent) (is-pair x)
-                  (sym (c .before .before .before .before .before .before .before .lower-void .ensures)
-                  ∙ c .before .before .before .before .before .before .if2 .left),
+                  (sym (c .before .before .before .before .before .before .before .before .before .lower-void .ensures)
+                  ∙ c .before .before .before .before .before .before .before .before .if2 .left),
               omega (arith, w .limit-high),
+              c .before .before .before .before .before .ring-images .ensures,
             ),
           ),
         ),
@@ -123,32 +127,32 @@ same-length-2 c = search needs
 
 returns-3 : tie.Need-returns-3
 returns-3 c =
-    let x = c .before .before .before .before .before .before .before .before .before .before .before .before .before .before in
+    let x = c .before .before .before .before .before .before .before .before .before .before .before .before .before .before .before .before in
     let a = entered x .args in
-    let after : List ℕ = c .before .before .before .solve-pair .last .0 in
+    let after : List ℕ = c .before .before .before .solve-given .last .0 in
     promise-deep (pairPicks (a .rings) (a .mover) (a .opponent) (a .k) (a .limit) (a .tablebase .now))
     (pair-last (a .rings) (a .mover) (a .opponent) (a .k) (a .limit) (a .tablebase .now))
     (λ (deep : Bool). PairFill (a .rings) (a .k) (a .mover) (a .opponent) (a .limit) (a .tablebase .now) (after) deep) (a .tablebase .now) after
-    (sym (decided x false (sym (c .before .before .before .before .before .before .before .before .before .before .before .lower-void .ensures)
-    ∙ c .before .before .before .before .before .before .before .before .before .before .if2 .left)))
+    (sym (decided x false (sym (c .before .before .before .before .before .before .before .before .before .before .before .before .before .lower-void .ensures)
+    ∙ c .before .before .before .before .before .before .before .before .before .before .before .before .if2 .left)))
     (subst (λ (deep : Bool). PairFill (a .rings) (a .k) (a .mover) (a .opponent) (a .limit) (a .tablebase .now) (after) deep) (c .if3 .taken)
-    (c .before .before .before .solve-pair .ensures))
+    (c .before .before .before .solve-given .ensures))
 
 same-length-3 : tie.Need-same-length-3
 same-length-3 c = search needs
 
 returns-4 : tie.Need-returns-4
 returns-4 c =
-    let x = c .before .before .before .before .before .before .before .before .before .before .before .before .before .before in
+    let x = c .before .before .before .before .before .before .before .before .before .before .before .before .before .before .before .before in
     let a = entered x .args in
-    let after : List ℕ = c .before .before .before .solve-pair .last .0 in
+    let after : List ℕ = c .before .before .before .solve-given .last .0 in
     promise-filled (pairPicks (a .rings) (a .mover) (a .opponent) (a .k) (a .limit) (a .tablebase .now))
     (pair-last (a .rings) (a .mover) (a .opponent) (a .k) (a .limit) (a .tablebase .now))
     (λ (deep : Bool). PairFill (a .rings) (a .k) (a .mover) (a .opponent) (a .limit) (a .tablebase .now) (after) deep) (a .tablebase .now) after
-    (sym (decided x false (sym (c .before .before .before .before .before .before .before .before .before .before .before .lower-void .ensures)
-    ∙ c .before .before .before .before .before .before .before .before .before .before .if2 .left)))
+    (sym (decided x false (sym (c .before .before .before .before .before .before .before .before .before .before .before .before .before .lower-void .ensures)
+    ∙ c .before .before .before .before .before .before .before .before .before .before .before .before .if2 .left)))
     (subst (λ (deep : Bool). PairFill (a .rings) (a .k) (a .mover) (a .opponent) (a .limit) (a .tablebase .now) (after) deep) (c .if3 .left)
-    (c .before .before .before .solve-pair .ensures))
+    (c .before .before .before .solve-given .ensures))
 
 pub fill-pair-spec : {M : Type 1} → statement M
 fill-pair-spec =
@@ -162,8 +166,9 @@ fill-pair-spec =
     returns-2
     neighbour-masks-requires
     mill-masks-requires
-    cast-solve-pair
-    solve-pair-requires
+    ring-images-requires
+    cast-solve-given
+    solve-given-requires
     same-length-2
     returns-3
     same-length-3
