@@ -15,10 +15,13 @@ use Rattle.symmetry.specs.Symmetries.{symmetries, image}
 abbrev pub Used : ℕ → Type 0
 Used maps = (maps ≡ 1) ⊎ ((maps ≡ 8) ⊎ (maps ≡ symmetries))
 
--- table (x, y) has one entry for all images of a position
+-- the table (x, y) that starts at a place has one entry for all images of a position
+abbrev pub SymmetricFrom : ℕ → ℕ → ℕ → ℕ → ℕ → List ℕ → Type 0
+SymmetricFrom maps rings from x y tablebase = (r g : ℕ) → r < size (8 * rings) x y → g < maps
+    → getD tablebase (from + rank (image rings g (unrank (8 * rings) x y r))) 0 ≡ getD tablebase (from + r) 0
+
 abbrev pub TableSymmetric : ℕ → ℕ → ℕ → List ℕ → ℕ → ℕ → Type 0
-TableSymmetric maps rings k tablebase x y = (r g : ℕ) → r < size (8 * rings) x y → g < maps
-    → getD tablebase (start (8 * rings) k x y + rank (image rings g (unrank (8 * rings) x y r))) 0 ≡ getD tablebase (start (8 * rings) k x y + r) 0
+TableSymmetric maps rings k tablebase x y = SymmetricFrom maps rings (start (8 * rings) k x y) x y tablebase
 
 -- and so have the lower tables of a pair
 abbrev pub LowerSymmetric : ℕ → ℕ → ℕ → ℕ → ℕ → List ℕ → Type 0

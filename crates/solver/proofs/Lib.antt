@@ -6,3 +6,4 @@ pub mod Answered
 pub mod PairStates
 pub mod LowerVoid
 pub mod PairClasses
+pub mod LowerMaps

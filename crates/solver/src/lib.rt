@@ -1,7 +1,8 @@
 // The solver: a pair of tables level by level, and a whole tablebase pair by pair, in place.
+mod given;
 mod pairs;
 mod whole;
 
-pub use whole::lower_void;
+pub use given::lower_void;
+pub use given::solve_given;
 pub use whole::solve_all;
-pub use whole::solve_given;

@@ -1,4 +1,4 @@
-// A pair by its counts, and a whole tablebase pair by pair, the smaller pairs first.
+// A pair by its counts and by a number of maps, and a whole tablebase pair by pair, the smaller pairs first.
 ghost use mathlib.Core.Path.{_≡_};
 ghost use Prim.Native.Nat.{_+_, _*_, _≤_, _<_};
 ghost use lib.ListN.{length};
@@ -8,37 +8,15 @@ ghost use Rattle.plies.specs.Masks.{NeighbourMasks, MillMasks};
 ghost use Rattle.game.specs.Game.{voidEntry};
 ghost use Rattle.invariance.specs.Used.{Used, LowerSymmetric};
 ghost use Rattle.imaging.specs.Images.{RingImages};
-ghost use Rattle.outcomes.specs.Places.{lowerVoid};
 ghost use Rattle.outcomes.specs.Pair.{Pair, LowerValid};
 ghost use Rattle.outcomes.specs.Order.{TrueOn, Before};
 ghost use Rattle.solver.specs.Solve.{PairFill, PairsFilled, WholeFill};
 use super::pairs;
 use parts::VOID;
 
-// Whether an entry is void in the lower tables of the pair (m, o) and (o, m).
-pub fn lower_void(
-    tablebase: &[u16],
-    binomials: &[u32; 625],
-    rings: usize,
-    k: usize,
-    m: usize,
-    o: usize,
-) -> bool
-    requires { ⌜ BinomialTable (now binomials) ⌝ }
-    requires { ⌜ Pair rings k m o × (k ≤ 9) × (length (now tablebase) ≡ tablebaseLength (8 * rings) k) ⌝ }
-    ensures { λ r. ⌜ r ≡ lowerVoid rings k (now (tablebase .entry)) m o ⌝ }
-{
-    let first = sweeping::table_of(binomials, 8 * rings, k, m, o);
-    let second = sweeping::table_of(binomials, 8 * rings, k, o, m);
-    let one = first.lower;
-    let two = second.lower;
-    parts::void_within(tablebase, one.start, one.end)
-        | parts::void_within(tablebase, two.start, two.end)
-}
-
 // Fills the pair (m, o) and (o, m) by a number of maps under which its lower tables are symmetric, or answers that some position is too deep and leaves
 // both tables void.
-fn solve_pair(
+pub fn solve_pair(
     tablebase: &mut [u16],
     binomials: &[u32; 625],
     near: &[u32; 24],
@@ -76,43 +54,8 @@ fn solve_pair(
     )
 }
 
-// Fills the pair (m, o) and (o, m) over any lower tables that hold no void.
-pub fn solve_given(
-    tablebase: &mut [u16],
-    binomials: &[u32; 625],
-    near: &[u32; 24],
-    mills: &[u32; 48],
-    images: &[u8; 2048],
-    rings: usize,
-    k: usize,
-    m: usize,
-    o: usize,
-    limit: u16,
-) -> bool
-    requires { ⌜ BinomialTable (now binomials) ⌝ }
-    requires { ⌜ NeighbourMasks rings (now near) ⌝ }
-    requires { ⌜ MillMasks rings (now mills) ⌝ }
-    requires { ⌜ Pair rings k m o × (k ≤ 9) × (length (now tablebase) ≡ tablebaseLength (8 * rings) k) ⌝ }
-    requires { ⌜ LowerValid rings k m o (now tablebase) × (limit < voidEntry) × RingImages (now images) ⌝ }
-    ensures { λ deep. ⌜ PairFill rings k m o limit (now (tablebase .entry)) (now (tablebase .exit)) deep ⌝ }
-{
-    solve_pair(
-        tablebase,
-        binomials,
-        near,
-        mills,
-        images,
-        rings,
-        1,
-        k,
-        m,
-        o,
-        limit,
-    )
-}
-
 // By how many maps a whole tablebase is filled. On one ring there is nothing to reverse: the first eight are all.
-fn all_maps(rings: usize) -> usize
+pub fn all_maps(rings: usize) -> usize
     ensures { λ r. ⌜ Used r ⌝ }
 {
     if rings < 2 {

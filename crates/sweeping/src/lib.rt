@@ -8,6 +8,9 @@ mod successors;
 mod tables;
 
 pub use classes::level_table;
+pub use cursor::Cursor;
+pub use cursor::nowhere;
+pub use cursor::seek;
 pub use levels::some_decided;
 pub use levels::sweep_blocked;
 pub use marks::Source;

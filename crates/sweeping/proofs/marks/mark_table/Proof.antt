@@ -96,8 +96,8 @@ mark-source-requires c κs =
             (
               w .0,
               room-before (a .rings) (length (x .loop .tablebase)) (a .table) (a .source) (a .capture) (p .2)
-                (subst (λ (n : ℕ). Lies (8 * a .rings) (a .table) n) (sym (x .loop .inv .2)) (p .1)) (x .loop .r)
-                (omega (arith, c .before .before .loop-test .taken, x .loop .inv .0)) _ (w .1),
+                  (subst (λ (n : ℕ). Lies (8 * a .rings) (a .table) n) (sym (x .loop .inv .2)) (p .1)) (x .loop .r)
+                  (omega (arith, c .before .before .loop-test .taken, x .loop .inv .0)) _ (w .1),
             ),
           ),
         ),

@@ -1,4 +1,4 @@
--- `solver::whole::lower_void` meets its contract. Assumes nothing.
+-- `solver::given::lower_void` meets its contract. Assumes nothing.
 use mathlib.Core.Path.{sym, ap₂, _∙_}
 use mathlib.Core.Bool.{Bool, _||_}
 use Rattle.outcomes.proofs.Voids.{lower-void}
@@ -7,8 +7,8 @@ use Rattle.solver.proofs.NextLevel.{lower-room}
 use Rattle.solver.proofs.LowerVoid.{lower-part-void}
 use lib.ListN.{length}
 use borrow.Author.Needs.{needs}
-use Rattle.solver.proofs.whole.lower_void.Statement.{statement}
-use Rattle.solver.proofs.whole.lower_void.Tie as tie
+use Rattle.solver.proofs.given.lower_void.Statement.{statement}
+use Rattle.solver.proofs.given.lower_void.Tie as tie
 
 mul-table-of : tie.Need-mul-table-of
 mul-table-of c = search needs

@@ -1,0 +1,56 @@
+-- `comparing::find_decided` meets its contract. The invariant: what is passed are draws. Assumes nothing.
+use Prim.Native.Nat.{_-_}
+use native.Mathlib.Omega.{arith}
+use Rattle.comparing.specs.Compared.{Drawn}
+use Rattle.comparing.proofs.Tested.{drawn-none, drawn-more}
+use Rattle.comparing.proofs.find_decided.Statement.{statement}
+use Rattle.comparing.proofs.find_decided.Tie as tie
+
+abbrev Inv-loop : tie.InvT-loop
+Inv-loop tablebase start size r i₀ i = Drawn start tablebase r size i
+
+abbrev μ-loop : tie.MeasureT-loop
+μ-loop tablebase start size r i₀ i = size - i
+
+loop-holds : tie.Need-loop-holds Inv-loop μ-loop
+loop-holds c = drawn-none (c .args .start) (c .args .tablebase .now) (c .args .r) (c .args .size) (c .pre .0)
+
+add-if1 : tie.Need-add-if1 Inv-loop μ-loop
+add-if1 c = omega (arith, c .loop-test .taken, c .before .before .pre .1)
+
+mul-if1 : tie.Need-mul-if1 Inv-loop μ-loop
+mul-if1 c = omega (arith, c .loop-test .taken, c .before .before .pre .1)
+
+shared-slice-read-if1 : tie.Need-shared-slice-read-if1 Inv-loop μ-loop
+shared-slice-read-if1 c = omega (arith, c .before .loop-test .taken, c .before .before .before .pre .1)
+
+returns : tie.Need-returns Inv-loop μ-loop
+returns c = c .before .before .before .loop .inv
+
+add-i : tie.Need-add-i Inv-loop μ-loop
+add-i c = omega (arith, c .before .before .loop-test .taken)
+
+loop-less : tie.Need-loop-less Inv-loop μ-loop
+loop-less c = omega (arith, c .before .before .loop-test .taken)
+
+loop-again : tie.Need-loop-again Inv-loop μ-loop
+loop-again c = drawn-more (c .before .before .before .loop .inv) (c .before .before .loop-test .taken) (c .if1 .left)
+
+returns-2 : tie.Need-returns-2 Inv-loop μ-loop
+returns-2 c = c .before .loop .inv
+
+pub find-decided-spec : {M : Type 1} → statement M
+find-decided-spec =
+    tie.close
+    (tie.spec
+    Inv-loop
+    μ-loop
+    loop-holds
+    add-if1
+    mul-if1
+    shared-slice-read-if1
+    returns
+    add-i
+    loop-less
+    loop-again
+    returns-2)

@@ -1,0 +1,30 @@
+-- Whether a table has one entry for all images of a position, as it is tested. Assumes nothing.
+use mathlib.Core.Path.{_≡_}
+use mathlib.Core.Bool.{Bool, true, false, _&&_}
+use mathlib.Core.List.{List}
+use Prim.Native.Nat.{ℕ, _+_, _≤_, _<_}
+use lib.Dec.{eqb}
+use lib.ListN.{getD}
+use Rattle.ranking.specs.Rank.{rank}
+use Rattle.game.specs.Game.{drawEntry}
+use Rattle.symmetry.specs.Symmetries.{image}
+
+-- the image of b under symmetry g has an entry, in the table that starts at a place
+unfoldable pub imageHas : ℕ → ℕ → List ℕ → List ℕ → ℕ → ℕ → Bool
+imageHas rings start tablebase b entry g = eqb (getD tablebase (start + rank (image rings g b)) 0) entry
+
+-- the entry of b stands at its images by a turn, by a mirror and with the rings reversed: these three make all sixteen
+unfoldable pub sameImages : ℕ → ℕ → List ℕ → List ℕ → ℕ → Bool
+sameImages rings start tablebase b entry =
+    (imageHas rings start tablebase b entry 1 && imageHas rings start tablebase b entry 4) && imageHas rings start tablebase b entry 8
+
+-- the positions from rank r on and below i are draws
+pub record Drawn (start : ℕ) (tablebase : List ℕ) (r end i : ℕ) : Type 0 where
+  pub low : r ≤ i
+  pub high : i ≤ end
+  pub draws : (j : ℕ) → r ≤ j → j < i → getD tablebase (start + j) 0 ≡ drawEntry
+
+-- an answer to whether something holds
+abbrev pub Decides : Type 0 → Bool → Type 0
+Decides P true = P
+Decides P false = P → ⊥

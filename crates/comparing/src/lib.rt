@@ -1,0 +1,137 @@
+// Whether a table has one entry for all images of a position. Only the positions that are no draws are looked at: the image of a draw is one, if no
+// image of another position is.
+ghost use mathlib.Core.Path.{_≡_};
+ghost use Prim.Native.Nat.{_+_, _*_, _≤_, _<_};
+ghost use lib.ListN.{length};
+ghost use Rattle.board.specs.Board.{count, boardOf, OnBoard};
+ghost use Rattle.sizes.specs.Size.{size};
+ghost use Rattle.sizes.specs.Binomial.{BinomialTable};
+ghost use Rattle.symmetry.specs.Symmetries.{symmetries};
+ghost use Rattle.invariance.specs.Used.{SymmetricFrom};
+ghost use Rattle.imaging.specs.Images.{RingImages};
+ghost use Rattle.comparing.specs.Compared.{imageHas, sameImages, Drawn, Decides};
+use parts::DRAW;
+use sweeping::Source;
+
+// Whether the image of a position has an entry.
+fn image_has(
+    tablebase: &[u16],
+    binomials: &[u32; 625],
+    images: &[u8; 2048],
+    rings: usize,
+    start: usize,
+    position: board::Position,
+    entry: u16,
+    g: usize,
+) -> bool
+    requires { ⌜ BinomialTable (now binomials) ⌝ }
+    requires { ⌜ RingImages (now images) ⌝ }
+    requires { ⌜ (rings ≤ 3) × (g < 16) × OnBoard (8 * rings) position
+        × (start + size (8 * rings) (count 1 (boardOf (8 * rings) position)) (count 2 (boardOf (8 * rings) position)) ≤ length (now tablebase)) ⌝ }
+    ensures { λ b. ⌜ b ≡ imageHas rings start (now (tablebase .entry)) (boardOf (8 * rings) position) entry g ⌝ }
+{
+    let turned = imaging::image_of(images, rings, g, position);
+    let r = ranking::rank(binomials, 8 * rings, turned);
+    tablebase[start + r] == entry
+}
+
+// Whether the images of a position by a turn, by a mirror and with the rings reversed have an entry.
+fn same_images(
+    tablebase: &[u16],
+    binomials: &[u32; 625],
+    images: &[u8; 2048],
+    rings: usize,
+    start: usize,
+    position: board::Position,
+    entry: u16,
+) -> bool
+    requires { ⌜ BinomialTable (now binomials) ⌝ }
+    requires { ⌜ RingImages (now images) ⌝ }
+    requires { ⌜ (rings ≤ 3) × OnBoard (8 * rings) position
+        × (start + size (8 * rings) (count 1 (boardOf (8 * rings) position)) (count 2 (boardOf (8 * rings) position)) ≤ length (now tablebase)) ⌝ }
+    ensures { λ b. ⌜ b ≡ sameImages rings start (now (tablebase .entry)) (boardOf (8 * rings) position) entry ⌝ }
+{
+    image_has(
+        tablebase,
+        binomials,
+        images,
+        rings,
+        start,
+        position,
+        entry,
+        1,
+    )
+        & image_has(
+            tablebase,
+            binomials,
+            images,
+            rings,
+            start,
+            position,
+            entry,
+            4,
+        )
+        & image_has(
+            tablebase,
+            binomials,
+            images,
+            rings,
+            start,
+            position,
+            entry,
+            8,
+        )
+}
+
+// The first rank from r on of a position that is no draw, or the size.
+fn find_decided(tablebase: &[u16], start: usize, size: usize, r: usize) -> usize
+    requires { ⌜ (r ≤ size) × (start + size ≤ length (now tablebase)) ⌝ }
+    ensures { λ i. ⌜ Drawn start (now (tablebase .entry)) r size i ⌝ }
+{
+    let mut i = r;
+    while i < size {
+        if tablebase[start + i] != DRAW {
+            return i;
+        }
+        i += 1;
+    }
+    i
+}
+
+// Whether a table has one entry for all images of a position.
+pub fn is_symmetric(
+    tablebase: &[u16],
+    binomials: &[u32; 625],
+    images: &[u8; 2048],
+    rings: usize,
+    table: Source,
+) -> bool
+    requires { ⌜ BinomialTable (now binomials) ⌝ }
+    requires { ⌜ RingImages (now images) ⌝ }
+    requires { ⌜ (rings ≤ 3) × (table .mover ≤ 24) × (table .opponent ≤ 24)
+        × (table .start + size (8 * rings) (table .mover) (table .opponent) ≤ length (now tablebase)) ⌝ }
+    ensures { λ b. ⌜ Decides (SymmetricFrom symmetries rings (table .start) (table .mover) (table .opponent) (now (tablebase .entry))) b ⌝ }
+{
+    let start = table.start;
+    let size = sizes::size(binomials, 8 * rings, table.mover, table.opponent);
+    let mut at = sweeping::nowhere(size);
+    let mut r = find_decided(tablebase, start, size, 0);
+    while r < size {
+        at = sweeping::seek(binomials, rings, table.mover, table.opponent, at, r);
+        let entry = tablebase[start + r];
+        if same_images(
+            tablebase,
+            binomials,
+            images,
+            rings,
+            start,
+            at.position,
+            entry,
+        ) {
+            r = find_decided(tablebase, start, size, r + 1);
+        } else {
+            return false;
+        }
+    }
+    true
+}
