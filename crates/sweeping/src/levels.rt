@@ -61,7 +61,7 @@ pub fn sweep_blocked(
     let mut at = cursor::nowhere(size);
     let mut r = 0;
     while r < size {
-        at = cursor::seek(binomials, rings, table.mover, table.opponent, at, r);
+        at = cursor::follow(binomials, rings, table.mover, table.opponent, at, r);
         sweep_place(tablebase, near, rings, table, at.position, r);
         r += 1;
     }

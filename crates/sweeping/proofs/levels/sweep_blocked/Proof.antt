@@ -36,8 +36,8 @@ loop-holds c =
       λ h. absurd (omega (arith, c .nowhere .ensures)),
     )
 
-seek-requires : tie.Need-seek-requires Inv-loop μ-loop
-seek-requires c κs =
+follow-requires : tie.Need-follow-requires Inv-loop μ-loop
+follow-requires c κs =
     let x = c .before in
     let s = x .before .before .before .before .before in
     (s .pre .0, ((s .pre .1 .1 .0, omega (arith, c .loop-test .taken, x .loop .inv .0)), λ h. x .loop .inv .4 (omega (arith, c .loop-test .taken))))
@@ -54,7 +54,7 @@ sweep-place-requires c κs =
           subst (λ (n : ℕ). Lies (8 * a .rings) (a .table) n) (sym (x .loop .inv .2)) (s .pre .1 .1 .1),
           omega (arith, c .before .before .loop-test .taken, x .loop .inv .0),
         ),
-        c .before .seek .ensures .1,
+        c .before .follow .ensures .1,
       ),
     )
 
@@ -74,7 +74,7 @@ loop-again c =
       omega (arith, k .before .loop-test .taken),
       ap length e ∙ blocked-length (a .rings) (a .table) (x .loop .r) (x .loop .tablebase) ∙ x .loop .inv .2,
       e ∙ blocked-more (a .rings) (a .table) (a .tablebase .now) (x .loop .r) (x .loop .tablebase) (x .loop .inv .3),
-      stands-at (a .rings) (a .table .mover) (a .table .opponent) _ (x .loop .r) (k .seek .result) (k .seek .ensures .0) (k .seek .ensures .1),
+      stands-at (a .rings) (a .table .mover) (a .table .opponent) _ (x .loop .r) (k .follow .result) (k .follow .ensures .0) (k .follow .ensures .1),
     )
 
 same-length : tie.Need-same-length Inv-loop μ-loop
@@ -96,7 +96,7 @@ sweep-blocked-spec =
     sub-size
     nowhere-requires
     loop-holds
-    seek-requires
+    follow-requires
     sweep-place-requires
     add-r
     loop-less
