@@ -51,7 +51,7 @@ fn same_images(
         × (start + size (8 * rings) (count 1 (boardOf (8 * rings) position)) (count 2 (boardOf (8 * rings) position)) ≤ length (now tablebase)) ⌝ }
     ensures { λ b. ⌜ b ≡ sameImages rings start (now (tablebase .entry)) (boardOf (8 * rings) position) entry ⌝ }
 {
-    image_has(
+    let turned = image_has(
         tablebase,
         binomials,
         images,
@@ -60,27 +60,28 @@ fn same_images(
         position,
         entry,
         1,
-    )
-        & image_has(
-            tablebase,
-            binomials,
-            images,
-            rings,
-            start,
-            position,
-            entry,
-            4,
-        )
-        & image_has(
-            tablebase,
-            binomials,
-            images,
-            rings,
-            start,
-            position,
-            entry,
-            8,
-        )
+    );
+    let mirrored = image_has(
+        tablebase,
+        binomials,
+        images,
+        rings,
+        start,
+        position,
+        entry,
+        4,
+    );
+    let reversed = image_has(
+        tablebase,
+        binomials,
+        images,
+        rings,
+        start,
+        position,
+        entry,
+        8,
+    );
+    turned & mirrored & reversed
 }
 
 // The first rank from r on of a position that is no draw, or the size.

@@ -44,11 +44,11 @@ pub fn write_images(
         × (end ≡ start + size (8 * rings) (count 1 (boardOf (8 * rings) position)) (count 2 (boardOf (8 * rings) position))) ⌝ }
     ensures { λ _. ⌜ now (tablebase .exit) ≡ imagesWritten rings start (boardOf (8 * rings) position) entry (now (tablebase .entry)) maps ⌝ }
 {
-    let mut g = 0;
-    while g < maps {
-        let turned = image_of(images, rings, g, position);
+    let mut written = 0;
+    while written < maps {
+        let turned = image_of(images, rings, written, position);
         let r = ranking::rank(binomials, 8 * rings, turned);
         parts::write_entry(tablebase, start, end, r, entry);
-        g += 1;
+        written += 1;
     }
 }

@@ -12,11 +12,11 @@ use Rattle.imaging.proofs.classes.write_images.Statement.{statement}
 use Rattle.imaging.proofs.classes.write_images.Tie as tie
 
 abbrev Inv-loop : tie.InvT-loop
-Inv-loop tablebase₀ binomials images rings maps start end position entry g₀ tablebase g =
-    (g ≤ maps) × (length tablebase ≡ length tablebase₀) × (tablebase ≡ imagesWritten rings start (boardOf (8 * rings) position) entry tablebase₀ g)
+Inv-loop tablebase₀ binomials images rings maps start end position entry written₀ tablebase written =
+    (written ≤ maps) × (length tablebase ≡ length tablebase₀) × (tablebase ≡ imagesWritten rings start (boardOf (8 * rings) position) entry tablebase₀ written)
 
 abbrev μ-loop : tie.MeasureT-loop
-μ-loop tablebase₀ binomials images rings maps start end position entry g₀ tablebase g = maps - g
+μ-loop tablebase₀ binomials images rings maps start end position entry written₀ tablebase written = maps - written
 
 loop-holds : tie.Need-loop-holds Inv-loop μ-loop
 loop-holds c =
@@ -41,11 +41,11 @@ write-entry-requires c κs =
     let a = s .args in
     let p = s .pre .1 .1 in
     let t = i .before .loop-test .taken in
-    let e = image-rank (a .rings) (p .0) (x .loop .g) (omega (arith, p .1, t)) (a .position) (i .image-of .result) (p .2) (i .image-of .ensures .0) in
+    let e = image-rank (a .rings) (p .0) (x .loop .written) (omega (arith, p .1, t)) (a .position) (i .image-of .result) (p .2) (i .image-of .ensures .0) in
     (omega (arith, e, p .4, k .rank .ensures), omega (arith, p .3, x .loop .inv .1))
 
-add-g : tie.Need-add-g Inv-loop μ-loop
-add-g c = search needs
+add-written : tie.Need-add-written Inv-loop μ-loop
+add-written c = search needs
 
 loop-less : tie.Need-loop-less Inv-loop μ-loop
 loop-less c = search needs
@@ -60,7 +60,7 @@ loop-again c =
     let w = c .before .before .write-entry .ensures in (
       omega (arith, i .before .loop-test .taken),
       ap length w ∙ length-set (x .loop .tablebase) (a .start + k .rank .result) (a .entry) ∙ x .loop .inv .1,
-      w ∙ one-written (a .rings) (a .start) (boardOf (8 * a .rings) (a .position)) (a .entry) (a .tablebase .now) (x .loop .g) (x .loop .tablebase) (x .loop .inv .2)
+      w ∙ one-written (a .rings) (a .start) (boardOf (8 * a .rings) (a .position)) (a .entry) (a .tablebase .now) (x .loop .written) (x .loop .tablebase) (x .loop .inv .2)
           (k .rank .result) (k .rank .ensures ∙ ap rank (i .image-of .ensures .0)),
     )
 
@@ -84,7 +84,7 @@ write-images-spec =
     mul-rank
     rank-requires
     write-entry-requires
-    add-g
+    add-written
     loop-less
     loop-again
     same-length
