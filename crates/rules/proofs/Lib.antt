@@ -1,6 +1,7 @@
 pub mod Boards
 pub mod Bound
 pub mod Found
+pub mod Jumps
 pub mod Leads
 pub mod Listed
 pub mod Mills

@@ -2,16 +2,23 @@
 use mathlib.Core.Path.{_≡_, refl, sym, ap, _∙_}
 use mathlib.Core.Bool.{Bool, true, false, _&&_}
 use mathlib.Core.List.{List, [], _∷_, map}
-use Prim.Native.Nat.{ℕ, zero, suc, _+_, _*_}
+use Prim.Native.Nat.{ℕ, zero, suc, _+_, _-_, _*_, _≤_, _<_}
 use native.Mathlib.Numerals.{add-one}
+use native.Mathlib.Omega.{arith}
+use lib.Dec.{eqb, ltb}
 use lib.ListN.{length, set, length-set}
+use borrow.Author.Tests.{eqb-true, ltb-true}
 use Rattle.lists.specs.Lists.{isEmpty}
+use Rattle.lists.proofs.Tests.{and-left, and-right}
+use Rattle.sizes.specs.Size.{size}
 use Rattle.ranking.specs.Unrank.{unrank}
+use Rattle.ranking.proofs.Inverse.{rank-unrank}
 use Rattle.rules.specs.Ply.{removable, listedMoves, afterPly}
 use Rattle.rules.proofs.Listed.{successors-are}
+use Rattle.rules.proofs.Jumps.{three-free}
 use Rattle.outcomes.specs.Whole.{next}
 use Rattle.sweeping.specs.declared.tables.Table.{Table}
-use Rattle.sweeping.specs.Levels.{isOpen, blockedPlace, blockedFirst}
+use Rattle.sweeping.specs.Levels.{isOpen, blockedPlace, blockedFirst, allFree}
 
 empty-map : {A B : Type 0} (f : A → B) (l : List A) → isEmpty (map f l) ≡ isEmpty l
 empty-map f [] = refl
@@ -57,3 +64,24 @@ module _ (rings : ℕ) (t : Table) (now : List ℕ) where
   unfolding blockedFirst
   blocked-lengths zero = refl
   blocked-lengths (suc n) = blocked-length rings t n (blockedFirst rings t now n) ∙ blocked-lengths n
+
+  -- where no mover is blocked, level 0 leaves the table as it is
+  module _ (free : allFree rings t ≡ true) where
+    mover-free : (r : ℕ) → r < size (8 * rings) (t .mover) (t .opponent) → isEmpty (next rings (unrank (8 * rings) (t .mover) (t .opponent) r)) ≡ false
+    unfolding allFree
+    mover-free r h =
+        let three = eqb-true (t .mover) 3 (and-left (eqb (t .mover) 3) (ltb 3 (8 * rings - t .opponent)) free) in
+        let room = ltb-true 3 (8 * rings - t .opponent) (and-right (eqb (t .mover) 3) (ltb 3 (8 * rings - t .opponent)) free) in
+        let w = rank-unrank (8 * rings) (t .mover) (t .opponent) r h in
+        sym (no-successor rings (unrank (8 * rings) (t .mover) (t .opponent) r))
+        ∙ three-free (λ n c. removable n c) rings (unrank (8 * rings) (t .mover) (t .opponent) r) (w .values) (w .points) (w .mover ∙ three)
+        (omega (arith, w .opponent))
+
+    pub free-none : (n : ℕ) → n ≤ size (8 * rings) (t .mover) (t .opponent) → now ≡ blockedFirst rings t now n
+    unfolding blockedFirst
+    free-none zero h = refl
+    free-none (suc n) h = free-none n (omega arith) ∙ go (isOpen t (blockedFirst rings t now n) n) refl
+      where
+        go : (c : Bool) → isOpen t (blockedFirst rings t now n) n ≡ c → blockedFirst rings t now n ≡ blockedPlace rings t (blockedFirst rings t now n) n
+        go true e = place-free rings t n (blockedFirst rings t now n) e (mover-free n h)
+        go false e = place-closed rings t n (blockedFirst rings t now n) e

@@ -2,8 +2,8 @@
 use mathlib.Core.Path.{_≡_}
 use mathlib.Core.Bool.{Bool, true, false, _&&_}
 use mathlib.Core.List.{List}
-use Prim.Native.Nat.{ℕ, zero, suc, _+_, _*_, _≤_, _<_}
-use lib.Dec.{eqb}
+use Prim.Native.Nat.{ℕ, zero, suc, _+_, _-_, _*_, _≤_, _<_}
+use lib.Dec.{eqb, ltb}
 use lib.ListN.{getD, set}
 use Rattle.lists.specs.Lists.{isEmpty}
 use Rattle.sizes.specs.Size.{size}
@@ -41,6 +41,10 @@ blockedPlace rings t tablebase r = elim (isOpen t tablebase r && isEmpty (next r
 unfoldable pub blockedFirst : ℕ → Table → List ℕ → ℕ → List ℕ
 blockedFirst rings t tablebase zero = tablebase
 blockedFirst rings t tablebase (suc n) = blockedPlace rings t (blockedFirst rings t tablebase n) n
+
+-- three stones go to any vacant point, and there is one: no mover of the table is blocked
+unfoldable pub allFree : ℕ → Table → Bool
+allFree rings t = eqb (t .mover) 3 && ltb 3 (8 * rings - t .opponent)
 
 module _ (rings : ℕ) (t : Table) (same : ℕ) where
   -- the position of rank r, and the entry of one of its successors

@@ -7,7 +7,7 @@ ghost use Rattle.sizes.specs.Binomial.{BinomialTable};
 ghost use Rattle.board.specs.Board.{positionOf};
 ghost use Rattle.ranking.specs.Unrank.{unrank};
 ghost use Rattle.plies.specs.Masks.{NeighbourMasks, MillMasks};
-ghost use Rattle.sweeping.specs.Levels.{Lies, Fits, isOpen, blockedPlace, blockedFirst, openDecided, Found};
+ghost use Rattle.sweeping.specs.Levels.{Lies, Fits, isOpen, blockedPlace, blockedFirst, allFree, openDecided, Found};
 use super::cursor;
 use super::tables::Table;
 use parts::DRAW;
@@ -43,8 +43,20 @@ fn sweep_place(
     }
 }
 
-// All positions of a table at level 0.
-pub fn sweep_blocked(
+// Whether three stones move and a point is vacant, so that no mover of a table is blocked.
+fn all_free(rings: usize, table: Table) -> bool
+    requires { ⌜ rings ≤ 3 ⌝ }
+    ensures { λ b. ⌜ b ≡ allFree rings table ⌝ }
+{
+    let points = 8 * rings;
+    if points <= table.opponent {
+        return false;
+    }
+    (table.mover == 3) & (3 < points - table.opponent)
+}
+
+// All positions of a table at level 0, one after the other.
+fn sweep_places(
     tablebase: &mut [u16],
     binomials: &[u32; 625],
     near: &[u32; 24],
@@ -65,6 +77,25 @@ pub fn sweep_blocked(
         sweep_place(tablebase, near, rings, table, at.position, r);
         r += 1;
     }
+}
+
+// All positions of a table at level 0.
+pub fn sweep_blocked(
+    tablebase: &mut [u16],
+    binomials: &[u32; 625],
+    near: &[u32; 24],
+    rings: usize,
+    table: Table,
+)
+    requires { ⌜ BinomialTable (now binomials) ⌝ }
+    requires { ⌜ NeighbourMasks rings (now near) ⌝ }
+    requires { ⌜ (rings ≤ 3) × Lies (8 * rings) table (length (now tablebase)) ⌝ }
+    ensures { λ _. ⌜ now (tablebase .exit) ≡ blockedFirst rings table (now (tablebase .entry)) (size (8 * rings) (table .mover) (table .opponent)) ⌝ }
+{
+    if all_free(rings, table) {
+        return;
+    }
+    sweep_places(tablebase, binomials, near, rings, table);
 }
 
 // Whether the position of rank r is open and decided by its successors.
