@@ -1,5 +1,6 @@
 // A wave: from the positions of one depth back to those that a ply leads from.
 use super::order::NO_TABLE;
+use super::order::follows;
 use super::order::position_at;
 use super::order::rank;
 use super::order::start_of;
@@ -49,17 +50,17 @@ fn settle(depth: u16, place: usize, entries: &mut [u16], counts: &mut [u16]) {
     }
 }
 
-// A position that the ply leads from, with this many opposing stones.
+// A position that the ply leads from, with this many opposing stones, if its table is to be filled.
 fn reach(
     ways: &[usize; 2500],
-    starts: &[usize; 101],
+    filled: &[usize; 101],
     ply: Ply,
     opponent: u8,
     board: &[u8; 24],
     entries: &mut [u16],
     counts: &mut [u16],
 ) {
-    let start = start_of(starts, ply.m, opponent);
+    let start = start_of(filled, ply.m, opponent);
     if start == NO_TABLE {
         return;
     }
@@ -70,7 +71,7 @@ fn reach(
 // With the stone back that a mill took from a point, if it may have taken it. The point that the move went to was vacant before.
 fn with_taken(
     ways: &[usize; 2500],
-    starts: &[usize; 101],
+    filled: &[usize; 101],
     ply: Ply,
     board: &[u8; 24],
     to: usize,
@@ -84,14 +85,14 @@ fn with_taken(
     let before = with_stone(board, taken, 2);
     if may_be_taken(&before, ply.rings, taken) {
         let opponent = std::num::wrapping_add_u8(ply.o, 1);
-        reach(ways, starts, ply, opponent, &before, entries, counts);
+        reach(ways, filled, ply, opponent, &before, entries, counts);
     }
 }
 
 // With each stone back that the mill may have taken.
 fn with_each_taken(
     ways: &[usize; 2500],
-    starts: &[usize; 101],
+    filled: &[usize; 101],
     ply: Ply,
     board: &[u8; 24],
     to: usize,
@@ -101,7 +102,7 @@ fn with_each_taken(
     let points = 8 * ply.rings as usize;
     let mut taken = 0;
     while taken < points {
-        with_taken(ways, starts, ply, board, to, taken, entries, counts);
+        with_taken(ways, filled, ply, board, to, taken, entries, counts);
         taken += 1;
     }
 }
@@ -109,7 +110,7 @@ fn with_each_taken(
 // With the move to a point taken back to another. A move that closed a mill took a stone, and any other none.
 fn back_to(
     ways: &[usize; 2500],
-    starts: &[usize; 101],
+    filled: &[usize; 101],
     ply: Ply,
     board: &[u8; 24],
     to: usize,
@@ -122,16 +123,16 @@ fn back_to(
     }
     let before = moved(board, to, from);
     if in_mill(board, ply.rings, to) {
-        with_each_taken(ways, starts, ply, &before, to, entries, counts);
+        with_each_taken(ways, filled, ply, &before, to, entries, counts);
         return;
     }
-    reach(ways, starts, ply, ply.o, &before, entries, counts);
+    reach(ways, filled, ply, ply.o, &before, entries, counts);
 }
 
 // With every move to a point taken back, if the side that moved has a stone there.
 fn back_from(
     ways: &[usize; 2500],
-    starts: &[usize; 101],
+    filled: &[usize; 101],
     ply: Ply,
     board: &[u8; 24],
     to: usize,
@@ -144,7 +145,7 @@ fn back_from(
     let points = 8 * ply.rings as usize;
     let mut from = 0;
     while from < points {
-        back_to(ways, starts, ply, board, to, from, entries, counts);
+        back_to(ways, filled, ply, board, to, from, entries, counts);
         from += 1;
     }
 }
@@ -152,7 +153,7 @@ fn back_from(
 // With every last ply of a board taken back.
 fn back(
     ways: &[usize; 2500],
-    starts: &[usize; 101],
+    filled: &[usize; 101],
     ply: Ply,
     board: &[u8; 24],
     entries: &mut [u16],
@@ -161,7 +162,7 @@ fn back(
     let points = 8 * ply.rings as usize;
     let mut to = 0;
     while to < points {
-        back_from(ways, starts, ply, board, to, entries, counts);
+        back_from(ways, filled, ply, board, to, entries, counts);
         to += 1;
     }
 }
@@ -188,23 +189,27 @@ fn turned(board: &[u8; 24]) -> [u8; 24] {
     next
 }
 
-// Takes the position at a place back if it has this depth, and answers whether it has.
+// Takes the position at a place back if it has this depth and a table to be filled can come before it.
 fn visit(
     ways: &[usize; 2500],
     starts: &[usize; 101],
+    filled: &[usize; 101],
     rings: u8,
     depth: u16,
     place: usize,
     entries: &mut [u16],
     counts: &mut [u16],
-) -> bool {
+) {
     if entries.len() <= place {
-        return false;
+        return;
     }
     if entries[place] != depth {
-        return false;
+        return;
     }
     let position = position_at(ways, starts, rings, place);
+    if !follows(filled, position.m, position.o) {
+        return;
+    }
     let board = position.board;
     let ply = Ply {
         rings,
@@ -212,25 +217,22 @@ fn visit(
         m: position.o,
         o: position.m,
     };
-    back(ways, starts, ply, &turned(&board), entries, counts);
-    true
+    back(ways, filled, ply, &turned(&board), entries, counts);
 }
 
-// Every position of a depth; whether there is one.
+// Every position of a depth.
 pub fn wave(
     ways: &[usize; 2500],
     starts: &[usize; 101],
+    filled: &[usize; 101],
     rings: u8,
     depth: u16,
     entries: &mut [u16],
     counts: &mut [u16],
-) -> bool {
-    let mut found = false;
+) {
     let mut place = 0;
     while place < entries.len() {
-        let here = visit(ways, starts, rings, depth, place, entries, counts);
-        found = here | found;
+        visit(ways, starts, filled, rings, depth, place, entries, counts);
         place += 1;
     }
-    found
 }

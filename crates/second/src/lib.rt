@@ -4,11 +4,14 @@
 // the plies of each position and writes the ends; then, depth by depth, each position of that depth is taken back by every ply that can
 // have led to it. What stood before a lost position is won; what stood before a won one has a ply less to hope for, and is lost with
 // its last. What stays open is drawn.
+//
+// All tables are filled, or two of them over entries that are given: `filled` has the starts of those alone, `starts` those of all.
 mod backwards;
 mod order;
 mod plies;
 mod points;
 
+ghost use Prim.Native.Nat.{_<_, _≤_};
 ghost use Rattle.second.specs.Kept.{KeptUnless};
 
 const DEEPEST: u16 = 65533;
@@ -18,35 +21,103 @@ const DEEPEST: u16 = 65533;
 pub fn solve(rings: u8, k: u8, entries: &mut [u16], counts: &mut [u16]) -> bool
     ensures { λ r. ⌜ KeptUnless r (now (entries .entry)) (now (entries .exit)) × KeptUnless r (now (counts .entry)) (now (counts .exit)) ⌝ }
 {
-    if (rings < 1) | (3 < rings) | (k < 3) | (9 < k) {
+    if outside(rings, k) {
         return false;
     }
     let ways = order::ways_table();
     let starts = order::starts_table(&ways, rings, k);
+    fill(&ways, &starts, &starts, rings, entries, counts)
+}
+
+// Fills the tables (mover, opponent) and (opponent, mover) of such a tablebase and leaves the others as they are. The entries of
+// (opponent - 1, mover) and (mover - 1, opponent) are given endings, if there are such tables: they state any depths, or a draw. Answers as
+// `solve` does, and false too where the tablebase has no such pair.
+pub fn solve_pair(
+    rings: u8,
+    mover: u8,
+    opponent: u8,
+    k: u8,
+    entries: &mut [u16],
+    counts: &mut [u16],
+) -> bool
+    ensures { λ r. ⌜ KeptUnless r (now (entries .entry)) (now (entries .exit)) × KeptUnless r (now (counts .entry)) (now (counts .exit)) ⌝ }
+{
+    if outside(rings, k) {
+        return false;
+    }
+    let ways = order::ways_table();
+    let starts = order::starts_table(&ways, rings, k);
+    if order::start_of(&starts, mover, opponent) == order::NO_TABLE {
+        return false;
+    }
+    let pair = order::pair_of(&starts, mover, opponent);
+    fill(&ways, &starts, &pair, rings, entries, counts)
+}
+
+fn outside(rings: u8, k: u8) -> bool {
+    (rings < 1) | (3 < rings) | (k < 3) | (9 < k)
+}
+
+// Fills the tables whose starts are in `filled`, if the lengths are those of the tablebase.
+fn fill(
+    ways: &[usize; 2500],
+    starts: &[usize; 101],
+    filled: &[usize; 101],
+    rings: u8,
+    entries: &mut [u16],
+    counts: &mut [u16],
+) -> bool
+    ensures { λ r. ⌜ KeptUnless r (now (entries .entry)) (now (entries .exit)) × KeptUnless r (now (counts .entry)) (now (counts .exit)) ⌝ }
+{
     let length = starts[order::LENGTH];
     if (entries.len() != length) | (counts.len() != length) {
         return false;
     }
-    plies::open(&ways, &starts, rings, entries, counts);
-    waves(&ways, &starts, rings, entries, counts);
+    plies::open(ways, starts, filled, rings, entries, counts);
+    waves(ways, starts, filled, rings, entries, counts);
     true
 }
 
-// Waves of rising depth. Depth 0 may be empty, since a side may be left with two stones and none be blocked; after that the first depth
-// with no position is the last.
+// The nearer of an entry and the nearest so far above a depth.
+fn nearer(entry: u16, depth: u16, nearest: u16) -> u16
+    requires { ⌜ (depth < nearest) × (nearest ≤ 65533) ⌝ }
+    ensures { λ r. ⌜ (depth < r) × (r ≤ 65533) ⌝ }
+{
+    if entry <= depth {
+        return nearest;
+    }
+    if nearest < entry {
+        return nearest;
+    }
+    entry
+}
+
+// The next greater depth that an entry states, the deepest if none does. Given depths may leave out any number between them.
+fn next_depth(entries: &[u16], depth: u16) -> u16
+    requires { ⌜ depth < 65533 ⌝ }
+    ensures { λ r. ⌜ (depth < r) × (r ≤ 65533) ⌝ }
+{
+    let mut nearest = DEEPEST;
+    let mut i = 0;
+    while i < entries.len() {
+        nearest = nearer(entries[i], depth, nearest);
+        i += 1;
+    }
+    nearest
+}
+
+// Waves of rising depth, as long as an entry states a greater one. The deepest is not taken back, since one ply more is no depth.
 fn waves(
     ways: &[usize; 2500],
     starts: &[usize; 101],
+    filled: &[usize; 101],
     rings: u8,
     entries: &mut [u16],
     counts: &mut [u16],
 ) {
     let mut depth: u16 = 0;
     while depth < DEEPEST {
-        let found = backwards::wave(ways, starts, rings, depth, entries, counts);
-        if !found & (0 < depth) {
-            return;
-        }
-        depth += 1;
+        backwards::wave(ways, starts, filled, rings, depth, entries, counts);
+        depth = next_depth(entries, depth);
     }
 }

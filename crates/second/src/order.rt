@@ -110,6 +110,32 @@ pub fn start_of(starts: &[usize; 101], m: u8, o: u8) -> usize {
     starts[10 * m as usize + o as usize]
 }
 
+fn keep(kept: &mut [usize; 101], starts: &[usize; 101], m: u8, o: u8) {
+    if 9 < m {
+        return;
+    }
+    if 9 < o {
+        return;
+    }
+    let table = 10 * m as usize + o as usize;
+    kept[table] = starts[table];
+}
+
+// The starts of the tables (m, o) and (o, m) alone.
+pub fn pair_of(starts: &[usize; 101], m: u8, o: u8) -> [usize; 101] {
+    let mut pair = [NO_TABLE; 101];
+    keep(&mut pair, starts, m, o);
+    keep(&mut pair, starts, o, m);
+    pair
+}
+
+// Whether a ply of one of these tables can lead to table (m, o): the sides had the other names, and one stone more may have stood.
+pub fn follows(starts: &[usize; 101], m: u8, o: u8) -> bool {
+    let as_many = start_of(starts, o, m);
+    let one_more = start_of(starts, o, std::num::wrapping_add_u8(m, 1));
+    (as_many != NO_TABLE) | (one_more != NO_TABLE)
+}
+
 fn later(starts: &[usize; 101], i: usize, place: usize, found: usize) -> usize
     requires { ⌜ (i < 100) × (found < 100) ⌝ }
     ensures { λ r. ⌜ r < 100 ⌝ }

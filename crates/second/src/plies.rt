@@ -1,5 +1,7 @@
 // The first pass: how many plies each position has, and which positions are ends or one ply before one.
+use super::order::NO_TABLE;
 use super::order::position_at;
+use super::order::start_of;
 use super::points::adjoin;
 use super::points::at;
 use super::points::in_mill;
@@ -136,12 +138,16 @@ fn put(buffer: &mut [u16], place: usize, n: u16) {
 fn open_at(
     ways: &[usize; 2500],
     starts: &[usize; 101],
+    filled: &[usize; 101],
     rings: u8,
     place: usize,
     entries: &mut [u16],
     counts: &mut [u16],
 ) {
     let position = position_at(ways, starts, rings, place);
+    if start_of(filled, position.m, position.o) == NO_TABLE {
+        return;
+    }
     let board = position.board;
     let choices = removals(&board, rings, position.o);
     let tally = tally_of(&board, rings, position.m, choices);
@@ -149,17 +155,18 @@ fn open_at(
     put(counts, place, tally.plies);
 }
 
-// Writes at each place its first entry, and beside it how many plies the position has.
+// Writes at each place to be filled its first entry, and beside it how many plies the position has.
 pub fn open(
     ways: &[usize; 2500],
     starts: &[usize; 101],
+    filled: &[usize; 101],
     rings: u8,
     entries: &mut [u16],
     counts: &mut [u16],
 ) {
     let mut place = 0;
     while place < entries.len() {
-        open_at(ways, starts, rings, place, entries, counts);
+        open_at(ways, starts, filled, rings, place, entries, counts);
         place += 1;
     }
 }

@@ -7,10 +7,10 @@ use Rattle.second.proofs.backwards.back.Statement.{statement}
 use Rattle.second.proofs.backwards.back.Tie as tie
 
 abbrev Inv-loop : tie.InvT-loop
-Inv-loop ways starts ply board entries₀ counts₀ points to₀ entries counts to = (to ≤ points) × (length entries ≡ length entries₀) × (length counts ≡ length counts₀)
+Inv-loop ways filled ply board entries₀ counts₀ points to₀ entries counts to = (to ≤ points) × (length entries ≡ length entries₀) × (length counts ≡ length counts₀)
 
 abbrev μ-loop : tie.MeasureT-loop
-μ-loop ways starts ply board entries₀ counts₀ points to₀ entries counts to = points - to
+μ-loop ways filled ply board entries₀ counts₀ points to₀ entries counts to = points - to
 
 cast-points : tie.Need-cast-points Inv-loop μ-loop
 cast-points c = search needs

@@ -7,10 +7,10 @@ use Rattle.second.proofs.backwards.back_from.Statement.{statement}
 use Rattle.second.proofs.backwards.back_from.Tie as tie
 
 abbrev Inv-loop : tie.InvT-loop
-Inv-loop ways starts ply board to entries₀ counts₀ points from₀ entries counts from = (from ≤ points) × (length entries ≡ length entries₀) × (length counts ≡ length counts₀)
+Inv-loop ways filled ply board to entries₀ counts₀ points from₀ entries counts from = (from ≤ points) × (length entries ≡ length entries₀) × (length counts ≡ length counts₀)
 
 abbrev μ-loop : tie.MeasureT-loop
-μ-loop ways starts ply board to entries₀ counts₀ points from₀ entries counts from = points - from
+μ-loop ways filled ply board to entries₀ counts₀ points from₀ entries counts from = points - from
 
 at-requires : tie.Need-at-requires Inv-loop μ-loop
 at-requires c κs = search needs

@@ -7,10 +7,10 @@ use Rattle.second.proofs.backwards.wave.Statement.{statement}
 use Rattle.second.proofs.backwards.wave.Tie as tie
 
 abbrev Inv-loop : tie.InvT-loop
-Inv-loop ways starts rings depth entries₀ counts₀ found₀ place₀ entries counts found place = (place ≤ length entries₀) × (length entries ≡ length entries₀) × (length counts ≡ length counts₀)
+Inv-loop ways starts filled rings depth entries₀ counts₀ place₀ entries counts place = (place ≤ length entries₀) × (length entries ≡ length entries₀) × (length counts ≡ length counts₀)
 
 abbrev μ-loop : tie.MeasureT-loop
-μ-loop ways starts rings depth entries₀ counts₀ found₀ place₀ entries counts found place = length entries₀ - place
+μ-loop ways starts filled rings depth entries₀ counts₀ place₀ entries counts place = length entries₀ - place
 
 loop-holds : tie.Need-loop-holds Inv-loop μ-loop
 loop-holds c = search needs

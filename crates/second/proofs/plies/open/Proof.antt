@@ -7,10 +7,10 @@ use Rattle.second.proofs.plies.open.Statement.{statement}
 use Rattle.second.proofs.plies.open.Tie as tie
 
 abbrev Inv-loop : tie.InvT-loop
-Inv-loop ways starts rings entries₀ counts₀ place₀ entries counts place = (place ≤ length entries₀) × (length entries ≡ length entries₀) × (length counts ≡ length counts₀)
+Inv-loop ways starts filled rings entries₀ counts₀ place₀ entries counts place = (place ≤ length entries₀) × (length entries ≡ length entries₀) × (length counts ≡ length counts₀)
 
 abbrev μ-loop : tie.MeasureT-loop
-μ-loop ways starts rings entries₀ counts₀ place₀ entries counts place = length entries₀ - place
+μ-loop ways starts filled rings entries₀ counts₀ place₀ entries counts place = length entries₀ - place
 
 loop-holds : tie.Need-loop-holds Inv-loop μ-loop
 loop-holds c = search needs
