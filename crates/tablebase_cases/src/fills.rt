@@ -68,7 +68,7 @@ fn sums_of(tablebase: &[u16]) -> Sums {
     sums
 }
 
-fn contents(tablebase: &[u16]) {
+pub fn contents(tablebase: &[u16]) {
     let sums = sums_of(tablebase);
     text(b"; won");
     number(sums.won);
@@ -102,7 +102,7 @@ fn hold(tablebase: &mut [u16], entry: u16) {
 }
 
 // Writes one entry at a place.
-fn put(tablebase: &mut [u16], place: usize, entry: u16) {
+pub fn put(tablebase: &mut [u16], place: usize, entry: u16) {
     if place < tablebase.len() {
         tablebase[place] = entry;
     }

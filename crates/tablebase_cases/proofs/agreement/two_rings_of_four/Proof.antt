@@ -6,17 +6,17 @@ use borrow.Author.Needs.{needs}
 use Rattle.tablebase_cases.proofs.agreement.two_rings_of_four.Statement.{statement}
 use Rattle.tablebase_cases.proofs.agreement.two_rings_of_four.Tie as tie
 
-slice-aggregate-compare : tie.Need-slice-aggregate-compare
-slice-aggregate-compare c = sym (length-replicate {A = ℕ} 1861860 7)
+slice-aggregate-compare-four : tie.Need-slice-aggregate-compare-four
+slice-aggregate-compare-four c = sym (length-replicate {A = ℕ} 1861860 7)
 
-slice-aggregate-compare-2 : tie.Need-slice-aggregate-compare-2
-slice-aggregate-compare-2 c = sym (length-replicate {A = ℕ} 1861860 9)
+slice-aggregate-compare-four-2 : tie.Need-slice-aggregate-compare-four-2
+slice-aggregate-compare-four-2 c = sym (length-replicate {A = ℕ} 1861860 9)
 
-compare-requires : tie.Need-compare-requires
-compare-requires c κs = search needs
+compare-four-requires : tie.Need-compare-four-requires
+compare-four-requires c κs = search needs
 
 returns : tie.Need-returns
 returns c = search needs
 
 pub two-rings-of-four-spec : {M : Type 1} → statement M
-two-rings-of-four-spec = tie.close (tie.spec slice-aggregate-compare slice-aggregate-compare-2 compare-requires returns)
+two-rings-of-four-spec = tie.close (tie.spec slice-aggregate-compare-four slice-aggregate-compare-four-2 compare-four-requires returns)
