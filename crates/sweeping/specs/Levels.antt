@@ -42,6 +42,11 @@ unfoldable pub blockedFirst : ℕ → Table → List ℕ → ℕ → List ℕ
 blockedFirst rings t tablebase zero = tablebase
 blockedFirst rings t tablebase (suc n) = blockedPlace rings t (blockedFirst rings t tablebase n) n
 
+-- the n positions from rank a on
+unfoldable pub blockedRange : ℕ → Table → ℕ → List ℕ → ℕ → List ℕ
+blockedRange rings t a tablebase zero = tablebase
+blockedRange rings t a tablebase (suc n) = blockedPlace rings t (blockedRange rings t a tablebase n) (a + n)
+
 -- three stones go to any vacant point, and there is one: no mover of the table is blocked
 unfoldable pub allFree : ℕ → Table → Bool
 allFree rings t = eqb (t .mover) 3 && ltb 3 (8 * rings - t .opponent)

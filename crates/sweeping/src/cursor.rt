@@ -60,32 +60,3 @@ pub fn seek(
         position: ranking::unrank(binomials, 8 * rings, mover, opponent, r),
     }
 }
-
-// The same where the cursor most often stands at the rank before.
-pub fn follow(
-    binomials: &[u32; 625],
-    rings: usize,
-    mover: usize,
-    opponent: usize,
-    cursor: Cursor,
-    r: usize,
-) -> Cursor
-    requires { ⌜ BinomialTable (now binomials) ⌝ }
-    requires { ⌜ (rings ≤ 3) × (r < size (8 * rings) mover opponent) ⌝ }
-    requires { ⌜ Stands rings mover opponent (r + 1) cursor ⌝ }
-    ensures { λ c. ⌜ (c .rank ≡ r) × (c .position ≡ positionOf (unrank (8 * rings) mover opponent r)) ⌝ }
-{
-    let known = cursor.rank;
-    if known < r {
-        if r - known == 1 {
-            return Cursor {
-                rank: r,
-                position: ranking::next(8 * rings, cursor.position),
-            };
-        }
-    }
-    Cursor {
-        rank: r,
-        position: ranking::unrank(binomials, 8 * rings, mover, opponent, r),
-    }
-}

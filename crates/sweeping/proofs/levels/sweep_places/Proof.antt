@@ -1,105 +1,78 @@
--- `sweeping::levels::sweep_places` meets its contract. The invariant: the places passed are swept, and the cursor stands, unless nowhere.
--- Assumes nothing.
-use mathlib.Core.Path.{_≡_, refl, sym, ap, subst, _∙_}
-use Prim.Native.Nat.{ℕ, _≤_, _-_, _*_}
+-- `sweeping::levels::sweep_places` meets its contract. Assumes nothing.
+use mathlib.Core.Path.{_≡_, sym, ap, subst, _∙_}
+use mathlib.Core.List.{List}
+use Prim.Native.Nat.{ℕ, _+_, _-_, _*_, _/_}
 use native.Mathlib.Omega.{arith}
 use lib.ListN.{length}
 use Rattle.sizes.specs.Size.{size}
-use Rattle.sweeping.specs.Cursors.{Stands}
-use Rattle.sweeping.specs.Levels.{Lies, blockedFirst}
-use Rattle.sweeping.proofs.Sought.{stands-at}
-use Rattle.sweeping.proofs.Blocked.{blocked-length, blocked-none, blocked-more}
+use Rattle.sweeping.specs.Levels.{Lies, blockedFirst, blockedRange}
+use Rattle.sweeping.proofs.Blocked.{blocked-none, blocked-lengths, range-after}
+use borrow.Author.Needs.{needs}
 use Rattle.sweeping.proofs.levels.sweep_places.Statement.{statement}
 use Rattle.sweeping.proofs.levels.sweep_places.Tie as tie
 
-abbrev Inv-loop : tie.InvT-loop
-Inv-loop tablebase₀ binomials near rings table n at₀ r₀ tablebase at r =
-    (n ≡ size (8 * rings) (table .mover) (table .opponent)) × (r ≤ n) × (length tablebase ≡ length tablebase₀)
-    × (tablebase ≡ blockedFirst rings table tablebase₀ r) × Stands rings (table .mover) (table .opponent) n at
+sub-half : tie.Need-sub-half
+sub-half c = search needs
 
-abbrev μ-loop : tie.MeasureT-loop
-μ-loop tablebase₀ binomials near rings table n at₀ r₀ tablebase at r = n - r
+sweep-rest-requires : tie.Need-sweep-rest-requires
+sweep-rest-requires c κs = search needs
 
-sub-size : tie.Need-sub-size Inv-loop μ-loop
-sub-size c = omega (arith, c .before .before .before .pre .1 .1 .1 .whole)
+same-length : tie.Need-same-length
+same-length c = search needs
 
-nowhere-requires : tie.Need-nowhere-requires Inv-loop μ-loop
-nowhere-requires c κs = tt
-
-loop-holds : tie.Need-loop-holds Inv-loop μ-loop
-loop-holds c =
-    let s = c .before .before .before .before in (
-      omega (arith, s .pre .1 .1 .1 .whole),
-      omega arith,
-      refl,
-      blocked-none (s .args .rings) (s .args .table) (s .args .tablebase .now),
-      λ h. absurd (omega (arith, c .nowhere .ensures)),
-    )
-
-follow-requires : tie.Need-follow-requires Inv-loop μ-loop
-follow-requires c κs =
-    let x = c .before in
-    let s = x .before .before .before .before .before in
-    (s .pre .0, ((s .pre .1 .1 .0, omega (arith, c .loop-test .taken, x .loop .inv .0)), λ h. x .loop .inv .4 (omega (arith, c .loop-test .taken))))
-
-sweep-place-requires : tie.Need-sweep-place-requires Inv-loop μ-loop
-sweep-place-requires c κs =
-    let x = c .before .before .before in
-    let s = x .before .before .before .before .before in
-    let a = s .args in (
-      s .pre .1 .0,
-      (
-        (
-          s .pre .1 .1 .0,
-          subst (λ (n : ℕ). Lies (8 * a .rings) (a .table) n) (sym (x .loop .inv .2)) (s .pre .1 .1 .1),
-          omega (arith, c .before .before .loop-test .taken, x .loop .inv .0),
-        ),
-        c .before .follow .ensures .1,
-      ),
-    )
-
-add-r : tie.Need-add-r Inv-loop μ-loop
-add-r c = omega (arith, c .before .before .before .before .before .loop-test .taken)
-
-loop-less : tie.Need-loop-less Inv-loop μ-loop
-loop-less c = omega (arith, c .before .before .before .before .before .loop-test .taken)
-
-loop-again : tie.Need-loop-again Inv-loop μ-loop
-loop-again c =
-    let k = c .before .before .before .before in
-    let x = k .before .before in
-    let a = x .before .before .before .before .before .args in
-    let e = c .before .before .sweep-place .ensures in (
-      x .loop .inv .0,
-      omega (arith, k .before .loop-test .taken),
-      ap length e ∙ blocked-length (a .rings) (a .table) (x .loop .r) (x .loop .tablebase) ∙ x .loop .inv .2,
-      e ∙ blocked-more (a .rings) (a .table) (a .tablebase .now) (x .loop .r) (x .loop .tablebase) (x .loop .inv .3),
-      stands-at (a .rings) (a .table .mover) (a .table .opponent) _ (x .loop .r) (k .follow .result) (k .follow .ensures .0) (k .follow .ensures .1),
-    )
-
-same-length : tie.Need-same-length Inv-loop μ-loop
-same-length c = c .before .loop .inv .2
-
-returns : tie.Need-returns Inv-loop μ-loop
+returns : tie.Need-returns
 returns c =
-    let x = c .before in
-    let a = x .before .before .before .before .before .args in
-    let e : x .loop .r ≡ size (8 * a .rings) (a .table .mover) (a .table .opponent) = omega (arith, c .loop-test .left, x .loop .inv .0, x .loop .inv .1) in
-    x .loop .inv .3 ∙ ap (blockedFirst (a .rings) (a .table) (a .tablebase .now)) e
+    let t = c .before .before in
+    let a = t .before .before .before .before .before .before .args in
+    let n = size (8 * a .rings) (a .table .mover) (a .table .opponent) in
+    let z : 0 + (n - 0) ≡ n = omega arith in
+    t .sweep-rest .ensures
+    ∙ ap (λ (l : List ℕ). blockedRange (a .rings) (a .table) 0 l (n - 0)) (blocked-none (a .rings) (a .table) (a .tablebase .now))
+    ∙ range-after (a .rings) (a .table) (a .tablebase .now) 0 (n - 0) ∙ ap (blockedFirst (a .rings) (a .table) (a .tablebase .now)) z
+
+sweep-halves-requires : tie.Need-sweep-halves-requires
+sweep-halves-requires c κs =
+    let s = c .before .before .before .before .before in
+    let p = s .pre .1 .1 in
+    (s .pre .0, (s .pre .1 .0, (p .0, p .1, omega (arith, c .before .if1 .left), omega (arith, p .1 .whole))))
+
+add-sweep-rest : tie.Need-add-sweep-rest
+add-sweep-rest c = search needs
+
+sweep-rest-requires-2 : tie.Need-sweep-rest-requires-2
+sweep-rest-requires-2 c κs =
+    let s = c .before .before .before .before .before .before .before .before .before in
+    let a = s .args in
+    let p = s .pre .1 .1 in
+    let e = ap length (c .before .before .before .sweep-halves .ensures) ∙ blocked-lengths (a .rings) (a .table) (a .tablebase .now) _ in
+    (s .pre .0, (s .pre .1 .0, (p .0, subst (λ (n : ℕ). Lies (8 * a .rings) (a .table) n) (sym e) (p .1), omega (arith, p .1 .whole))))
+
+same-length-2 : tie.Need-same-length-2
+same-length-2 c = search needs
+
+returns-2 : tie.Need-returns-2
+returns-2 c =
+    let t = c .before .before in
+    let k = t .before .before .before .before in
+    let s = k .before .before .before .before .before .before in
+    let a = s .args in
+    let p = s .pre .1 .1 in
+    let n = size (8 * a .rings) (a .table .mover) (a .table .opponent) in
+    let h = (a .table .own .end - a .table .own .start) / 2 in
+    let z : h + h + (n - (h + h)) ≡ n = omega (arith, p .1 .whole) in
+    t .sweep-rest2 .ensures ∙ ap (λ (l : List ℕ). blockedRange (a .rings) (a .table) (h + h) l (n - (h + h))) (k .sweep-halves .ensures)
+    ∙ range-after (a .rings) (a .table) (a .tablebase .now) (h + h) (n - (h + h)) ∙ ap (blockedFirst (a .rings) (a .table) (a .tablebase .now)) z
 
 pub sweep-places-spec : {M : Type 1} → statement M
 sweep-places-spec =
     tie.close
     (tie.spec
-    Inv-loop
-    μ-loop
-    sub-size
-    nowhere-requires
-    loop-holds
-    follow-requires
-    sweep-place-requires
-    add-r
-    loop-less
-    loop-again
+    sub-half
+    sweep-rest-requires
     same-length
-    returns)
+    returns
+    sweep-halves-requires
+    add-sweep-rest
+    sweep-rest-requires-2
+    same-length-2
+    returns-2)
