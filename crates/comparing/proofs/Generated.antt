@@ -63,7 +63,8 @@ module _ (rings : ℕ) (few : rings ≤ 3) (start x y : ℕ) (tablebase : List �
           go (inl e) = absurd (decided (sym s ∙ e))
           go (inr k) = k
 
-      joined : (a h g : ℕ) → a < symmetries → h < symmetries → compose a h ≡ g → entry (image rings a (image rings h b)) ≡ entry (image rings h b) → Same h → Same g
+      joined : (a h g : ℕ) → a < symmetries → h < symmetries → compose a h ≡ g → entry (image rings a (image rings h b)) ≡ entry (image rings h b)
+          → Same h → Same g
       joined a h g l m e k s =
           ap (λ (i : ℕ). entry (image rings i b)) (sym e) ∙ ap entry (sym (image-compose rings few b (w .points) a h l m)) ∙ k ∙ s
 
@@ -112,12 +113,14 @@ module _ (rings : ℕ) (few : rings ≤ 3) (start x y : ℕ) (tablebase : List �
         go true e true f = eqb-true (entry (image rings g b)) drawEntry f ∙ sym (eqb-true (entry b) drawEntry e)
         go true e false f =
             sym (ap entry (sym (image-back rings few b (w .points) g l))
-            ∙ decided-kept (image rings g b) (image-table rings few g l x y b w) (eqb-false (entry (image rings g b)) drawEntry f) (inverse g) (inverse-low g l))
+            ∙ decided-kept (image rings g b) (image-table rings few g l x y b w) (eqb-false (entry (image rings g b)) drawEntry f) (inverse g)
+            (inverse-low g l))
 
   pub generated : ((r : ℕ) → r < size (8 * rings) x y → (getD tablebase (start + r) 0 ≡ drawEntry) ⊎ Kept (unrank (8 * rings) x y r))
       → SymmetricFrom symmetries rings start x y tablebase
   generated tested r g h l =
-      all-kept each g l (unrank (8 * rings) x y r) (unrank-in rings x y r h) ∙ ap (λ (i : ℕ). getD tablebase (start + i) 0) (rank-unrank (8 * rings) x y r h .rank-is)
+      all-kept each g l (unrank (8 * rings) x y r) (unrank-in rings x y r h)
+      ∙ ap (λ (i : ℕ). getD tablebase (start + i) 0) (rank-unrank (8 * rings) x y r h .rank-is)
     where
       each : (b : List ℕ) → InTable rings x y b → (entry b ≡ drawEntry) ⊎ Kept b
       each b w = subst (λ (c : List ℕ). (entry b ≡ drawEntry) ⊎ Kept c) (unrank-of rings x y b w) (tested (rank b) (rank-in rings x y b w))

@@ -46,11 +46,17 @@ module _ (rings start m o : ℕ) (tablebase : List ℕ) where
     unfolding imageHas
     has g e = eqb-true _ _ e ∙ sym own
 
-    pub images-kept : (few : rings ≤ 3) → sameImages rings start tablebase board (getD tablebase (start + r) 0) ≡ true → Kept rings few start m o tablebase board
+    pub images-kept : (few : rings ≤ 3) → sameImages rings start tablebase board (getD tablebase (start + r) 0) ≡ true
+        → Kept rings few start m o tablebase board
     unfolding sameImages
     images-kept few e =
         let two = and-left (test 1 && test 4) (test 8) e in
-        record { turned = has 1 (and-left (test 1) (test 4) two); mirrored = has 4 (and-right (test 1) (test 4) two); reversed = has 8 (and-right (test 1 && test 4) (test 8) e) }
+        record {
+          turned = has 1 (and-left (test 1) (test 4) two);
+          mirrored = has 4 (and-right (test 1) (test 4) two);
+          reversed = has 8
+              (and-right (test 1 && test 4) (test 8) e);
+        }
       where
         test : ℕ → Bool
         test g = imageHas rings start tablebase board (getD tablebase (start + r) 0) g
@@ -78,12 +84,14 @@ module _ (rings start m o : ℕ) (tablebase : List ℕ) where
       go true e = p r (ltb-true r from e) h
       go false e = inl (w .draws r (ltb-false r from e) l)
 
-  pub passed-one : (few : rings ≤ 3) (n : ℕ) → sameImages rings start tablebase (unrank (8 * rings) m o n) (getD tablebase (start + n) 0) ≡ true → Passed few n
+  pub passed-one : (few : rings ≤ 3) (n : ℕ) → sameImages rings start tablebase (unrank (8 * rings) m o n) (getD tablebase (start + n) 0) ≡ true
+      → Passed few n
       → Passed few (n + 1)
   passed-one few n e p r l h = go (ℕ-discrete r n)
     where
       go : Dec (r ≡ n) → (getD tablebase (start + r) 0 ≡ drawEntry) ⊎ Kept rings few start m o tablebase (unrank (8 * rings) m o r)
-      go (yes q) = inr (images-kept r h few (subst (λ (i : ℕ). sameImages rings start tablebase (unrank (8 * rings) m o i) (getD tablebase (start + i) 0) ≡ true) (sym q) e))
+      go (yes q) = inr (images-kept r h few (subst (λ (i : ℕ). sameImages rings start tablebase (unrank (8 * rings) m o i)
+          (getD tablebase (start + i) 0) ≡ true) (sym q) e))
       go (no d) = p r (omega (arith, d)) h
 
   pub passed-all : (few : rings ≤ 3) (n : ℕ) → n ≡ size (8 * rings) m o → Passed few n → SymmetricFrom symmetries rings start m o tablebase

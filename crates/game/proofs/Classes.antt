@@ -34,7 +34,8 @@ module _ {Pos : Type 0} (next : Pos → List Pos) (seed : Pos → Seed) (S : Pos
 
   module _ (maps : ℕ) (act : ℕ → Pos → Pos) (m : Maps next seed S maps act) where
     -- a position of S whose plies decide is judged
-    module _ (t : Pos → ℕ) (D : Pos → Type 0) (w : Within next seed S t n D) (symmetric : Symmetric next seed S maps act t) (p : Pos) (s : S p) (e : seed p ≡ live) where
+    module _ (t : Pos → ℕ) (D : Pos → Type 0) (w : Within next seed S t n D) (symmetric : Symmetric next seed S maps act t) (p : Pos) (s : S p)
+        (e : seed p ≡ live) where
       abbrev Of : Pos → Type 0
       Of q = Image next seed S maps act p q
 

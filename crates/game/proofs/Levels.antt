@@ -231,7 +231,8 @@ module _ {Pos : Type 0} (next : Pos → List Pos) (seed : Pos → Seed) (S : Pos
         go : (q : Pos) → S q → Depth next seed j q → (c : Bool) → ltb n j ≡ c → (seed q ≡ live) ⊎ Entry next seed q (t q)
             → (seed q ≡ live → n < j → Between j) → Between (suc j)
         go q r y true f (inl v) lower = let w = lower v (ltb-true n j f) in (w .0, w .1, w .2, omega (arith, w .3), w .4)
-        go q r y true f (inr a) lower = let w = depth-entry next seed q a y in let i = ltb-true n j f in (q, r, omega (arith, w .0), omega (arith, w .0), w .1)
+        go q r y true f (inr a) lower = let w = depth-entry next seed q a y in let i = ltb-true n j f in
+            (q, r, omega (arith, w .0), omega (arith, w .0), w .1)
         go q r y false f c lower =
             let i = ltb-false n j f in
             let a = exact-upto g (suc n) b t x .complete q r j (omega arith) y in

@@ -10,7 +10,8 @@ module _ {Pos : Type 0} (next : Pos → List Pos) (seed : Pos → Seed) (S : Pos
     pub within : (g : ℕ) → g < maps → (p : Pos) → S p → S (act g p)
     pub seeds : (g : ℕ) → g < maps → (p : Pos) → S p → seed (act g p) ≡ seed p
     pub forth : (g : ℕ) → g < maps → (p : Pos) → S p → seed p ≡ live → (q : Pos) → List·Memᴰ q (next p) → List·Memᴰ (act g q) (next (act g p))
-    pub back : (g : ℕ) → g < maps → (p : Pos) → S p → seed p ≡ live → (q : Pos) → List·Memᴰ q (next (act g p)) → (x : Pos) × List·Memᴰ x (next p) × (q ≡ act g x)
+    pub back : (g : ℕ) → g < maps → (p : Pos) → S p → seed p ≡ live → (q : Pos) → List·Memᴰ q (next (act g p)) → (x : Pos) × List·Memᴰ x (next p)
+        × (q ≡ act g x)
     pub stays : (p : Pos) → S p → (g : ℕ) × (g < maps) × (act g p ≡ p)
     pub undone : (g : ℕ) → g < maps → (p : Pos) → S p → (h : ℕ) × (h < maps) × (act h (act g p) ≡ p)
     pub composed : (g h : ℕ) → g < maps → h < maps → (p : Pos) → S p → (i : ℕ) × (i < maps) × (act g (act h p) ≡ act i p)

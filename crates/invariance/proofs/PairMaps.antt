@@ -46,7 +46,8 @@ module _ (rings : ℕ) (few : rings ≤ 3) (g : ℕ) (h : g < symmetries) where
     values = image-values rings g b (w .values);
     points = image-length rings g b ∙ w .points;
     counts =
-        subst₂ (λ (x y : ℕ). BothTables m o x y) (sym (image-count rings few b (w .points) g 1 h)) (sym (image-count rings few b (w .points) g 2 h)) (w .counts);
+        subst₂ (λ (x y : ℕ). BothTables m o x y) (sym (image-count rings few b (w .points) g 1 h)) (sym (image-count rings few b (w .points) g 2 h))
+        (w .counts);
   }
 
   pub image-pair : (m o : ℕ) (b : List ℕ) → length b ≡ 8 * rings → inPair m o (image rings g b) ≡ inPair m o b

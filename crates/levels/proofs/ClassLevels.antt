@@ -60,12 +60,14 @@ module _ (rings : ℕ) (t : Table) (same level maps : ℕ) (picked : List ℕ �
 
   once-marked : MarkedPart (t .own .start) own clean once
   once-marked =
-      from-marked rings t (sameSource t same) false (same-before t same) (level - 1) (omega arith) picked clean (size (8 * rings) (t .opponent) (t .mover)) (omega arith)
+      from-marked rings t (sameSource t same) false (same-before t same) (level - 1) (omega arith) picked clean
+      (size (8 * rings) (t .opponent) (t .mover)) (omega arith)
 
   rest-marked : MarkedPart (t .own .start) own once (levelMarks rings t same level maps picked clean)
   unfolding levelMarks
   rest-marked =
-      from-marked rings t (lowerSource t) true (lower-before t three) (level - 1) (omega arith) picked once (size (8 * rings) (t .opponent - 1) (t .mover)) (omega arith)
+      from-marked rings t (lowerSource t) true (lower-before t three) (level - 1) (omega arith) picked once
+      (size (8 * rings) (t .opponent - 1) (t .mover)) (omega arith)
 
   pub all-marked : MarkedPart (t .own .start) own clean (levelMarks rings t same level maps picked clean)
   all-marked = part-then once-marked rest-marked
@@ -90,7 +92,8 @@ module _ (rings : ℕ) (t : Table) (same level maps : ℕ) (picked : List ℕ �
     same-found q j f c e =
         let back = sym (unrank-of rings (t .opponent) (t .mover) q j) in
         closed-marked (closed-still rest-marked (t .own .start + rank p)
-        (from-closed rings t (sameSource t same) false (same-before t same) (level - 1) (omega arith) picked clean (size (8 * rings) (t .opponent) (t .mover)) (omega arith)
+        (from-closed rings t (sameSource t same) false (same-before t same) (level - 1) (omega arith) picked clean
+        (size (8 * rings) (t .opponent) (t .mover)) (omega arith)
         (rank q) (rank-in rings (t .opponent) (t .mover) q j) e (subst (λ (b : List ℕ). picked b ≡ true) back c) p
         (subst (λ (b : List ℕ). List·Memᴰ p (predecessors false rings b)) back f) fits-in))
 
@@ -100,9 +103,11 @@ module _ (rings : ℕ) (t : Table) (same level maps : ℕ) (picked : List ℕ �
     unfolding levelMarks
     lower-found q j f c e =
         let back = sym (unrank-of rings (t .opponent - 1) (t .mover) q j) in
-        closed-marked (from-closed rings t (lowerSource t) true (lower-before t three) (level - 1) (omega arith) picked once (size (8 * rings) (t .opponent - 1) (t .mover))
+        closed-marked (from-closed rings t (lowerSource t) true (lower-before t three) (level - 1) (omega arith) picked once
+        (size (8 * rings) (t .opponent - 1) (t .mover))
         (omega arith) (rank q) (rank-in rings (t .opponent - 1) (t .mover) q j)
-        (source-same rings t (lowerSource t) true (lower-before t three) (level - 1) (omega arith) picked (t .own .start) own clean once once-marked (rank q) ∙ e)
+        (source-same rings t (lowerSource t) true (lower-before t three) (level - 1) (omega arith) picked (t .own .start) own clean once once-marked
+        (rank q) ∙ e)
         (subst (λ (b : List ℕ). picked b ≡ true) back c) p
         (subst (λ (b : List ℕ). List·Memᴰ p (predecessors true rings b)) back f)
         (omega (arith, fits-in, once-marked .same-length)))
@@ -202,7 +207,8 @@ module _ (rings k m o : ℕ) (pair : Pair rings k m o) (before : List ℕ) (vali
         sources-image (next rings) (λ c. pairSeed rings k m o before c) (OnPair rings m o) maps (λ g c. image rings g c)
         (mapped rings k m o pair before valid maps group mirrored) (pair-ground rings k m o pair before valid) (level - 1)
         (omega arith) (λ b. successorEntry rings k clean b) D
-        (subst (λ (n : ℕ). Within (next rings) (λ c. pairSeed rings k m o before c) (OnPair rings m o) (λ b. successorEntry rings k clean b) n D) e w) symmetric
+        (subst (λ (n : ℕ). Within (next rings) (λ c. pairSeed rings k m o before c) (OnPair rings m o) (λ b. successorEntry rings k clean b) n D) e w)
+        symmetric
         p on-p (pair-live rings k m o pair before valid p (pair-table (side .both) i))
         (subst (λ (n : ℕ). Depth (next rings) (λ c. pairSeed rings k m o before c) n p) e d) in
         let (g, l, c) = picks q (on-q .points) in
@@ -223,7 +229,8 @@ module _ (rings k m o : ℕ) (pair : Pair rings k m o) (before : List ℕ) (vali
             (mapped rings k m o pair before valid maps group mirrored) (pair-ground rings k m o pair before valid .closed) g l level p on-p d
 
         go : (g : ℕ) → g < maps → (q : List ℕ) → List·Memᴰ q (next rings (image rings g p)) → successorEntry rings k clean q ≡ level - 1 → picked q ≡ true
-            → Fresh (next rings) (λ c. pairSeed rings k m o before c) (OnPair rings m o) level (successorEntry rings k clean (image rings g p)) (image rings g p)
+            → Fresh (next rings) (λ c. pairSeed rings k m o before c) (OnPair rings m o) level (successorEntry rings k clean (image rings g p))
+            (image rings g p)
             → (successorEntry rings k clean p ≡ level) ⊎ ((g : ℕ) × (g < maps) × (entryAt rings k marks-of (image rings g p) ≡ voidEntry))
         go g l q ply v c (inl blank) = inr (g, l, is-marked (image rings g p) (in-image g l) blank q ply v c)
         go g l q ply v c (inr f) = inl (sym (symmetric g l p on-p) ∙ f .0)
@@ -232,7 +239,8 @@ module _ (rings k m o : ℕ) (pair : Pair rings k m o) (before : List ℕ) (vali
   SeenFree now = (q : List ℕ) → OnPair rings m o q → successorEntry rings k now q ≡ voidEntry → ⊥
 
   -- given entries are no marks
-  seen-free : (now : List ℕ) → Kept rings k (BothTables m o) before now → ((q : List ℕ) → InPair rings m o q → entryAt rings k now q ≡ voidEntry → ⊥) → SeenFree now
+  seen-free : (now : List ℕ) → Kept rings k (BothTables m o) before now → ((q : List ℕ) → InPair rings m o q → entryAt rings k now q ≡ voidEntry → ⊥)
+      → SeenFree now
   seen-free now kept own-free q s v = go (pairSeed rings k m o before q) refl
     where
       seeded : Seeded (next rings) (λ b. pairSeed rings k m o before b) (OnPair rings m o) (λ b. successorEntry rings k now b)
@@ -278,7 +286,8 @@ module _ (rings k m o : ℕ) (pair : Pair rings k m o) (before : List ℕ) (vali
         clean-is : view rings k clean q ≡ successorEntry rings k clean q
         clean-is = view-is clean (seen-free clean kept own-valid) q s
 
-        mark : MarkedIn (t .own .start) (size (8 * rings) (t .mover) (t .opponent)) clean marks-of (place rings k q) → opened (entryAt rings k marks-of q) ≡ opened (entryAt rings k clean q)
+        mark : MarkedIn (t .own .start) (size (8 * rings) (t .mover) (t .opponent)) clean marks-of (place rings k q)
+            → opened (entryAt rings k marks-of q) ≡ opened (entryAt rings k clean q)
         mark (inl e) = ap (λ (v : ℕ). opened v) (entry-place rings k marks-of q ∙ e ∙ sym (entry-place rings k clean q))
         mark (inr e) =
             opened-mark (entryAt rings k marks-of q) (entry-place rings k marks-of q ∙ e .1)
@@ -311,7 +320,8 @@ module _ (rings k m o : ℕ) (pair : Pair rings k m o) (before : List ℕ) (vali
             → MarkedIn (t .own .start) (size (8 * rings) (t .mover) (t .opponent)) clean marks-of j → getD marks-of j 0 ≡ getD clean j 0
         rest j none (inl e) = e
         rest j none (inr (a, b, (r, h, q))) =
-            absurd (none x y r (side .both) (omega (arith, sizes rings k m o pair x y t same side)) (ap (λ (s : ℕ). s + r) (sym (side .located .start-is)) ∙ q))
+            absurd (none x y r (side .both) (omega (arith, sizes rings k m o pair x y t same side))
+            (ap (λ (s : ℕ). s + r) (sym (side .located .start-is)) ∙ q))
 
         whose : (q : List ℕ) → InPair rings m o q → entryAt rings k marks-of q ≡ voidEntry
             → MarkedIn (t .own .start) (size (8 * rings) (t .mover) (t .opponent)) clean marks-of (place rings k q) → InTable rings x y q
@@ -357,7 +367,8 @@ module _ (rings k m o : ℕ) (pair : Pair rings k m o) (before : List ℕ) (vali
     pub level-kept : Kept rings k (BothTables m o) before (levelByClasses rings t same level maps picked clean)
     level-kept = end-judging .kept
 
-    pub level-symmetric : SymmetricTable rings k m o pair before valid maps group mirrored (λ b. successorEntry rings k (levelByClasses rings t same level maps picked clean) b)
+    pub level-symmetric : SymmetricTable rings k m o pair before valid maps group mirrored
+        (λ b. successorEntry rings k (levelByClasses rings t same level maps picked clean) b)
     level-symmetric =
         symmetric-same (next rings) (λ c. pairSeed rings k m o before c) (OnPair rings m o) maps (λ g c. image rings g c)
         (mapped rings k m o pair before valid maps group mirrored) (view rings k last) (λ b. successorEntry rings k last b) last-view (end-judging .symmetric)

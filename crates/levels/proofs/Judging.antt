@@ -92,7 +92,8 @@ module _ (rings k m o : ℕ) (pair : Pair rings k m o) (before : List ℕ) (vali
       marked-is = ap (λ (e : ℕ). eqb e voidEntry) (entry-is rings k m o pair x y t same side n h now)
 
       -- what the code reads of the successors
-      seen-is : hit (next rings) (judged rings t same now) level (ranked rings t same n) ≡ hit (next rings) (view rings k now) level (unrank (8 * rings) x y n)
+      seen-is : hit (next rings) (judged rings t same now) level (ranked rings t same n)
+          ≡ hit (next rings) (view rings k now) level (unrank (8 * rings) x y n)
       seen-is = hit-is rings k m o pair x y t same side n h now level ∙ sym (hit-view rings k level (omega arith) now (unrank (8 * rings) x y n))
 
       -- the board of rank n is told by its rank
@@ -171,7 +172,8 @@ module _ (rings k m o : ℕ) (pair : Pair rings k m o) (before : List ℕ) (vali
             room = length-set now (place rings k (unrank (8 * rings) x y n)) drawEntry ∙ w .room;
             amid = within-same (next rings) (λ c. pairSeed rings k m o before c) (OnPair rings m o) (pair-ground rings k m o pair before valid) level low
                 (view rings k now) (view rings k (set now (place rings k (unrank (8 * rings) x y n)) drawEntry)) reset-view D (w .amid);
-            symmetric = symmetric-same (next rings) (λ c. pairSeed rings k m o before c) (OnPair rings m o) maps (λ g c. image rings g c) mapped (view rings k now)
+            symmetric = symmetric-same (next rings) (λ c. pairSeed rings k m o before c) (OnPair rings m o) maps (λ g c. image rings g c) mapped
+                (view rings k now)
                 (view rings k (set now (place rings k (unrank (8 * rings) x y n)) drawEntry)) reset-view (w .symmetric);
             marks = λ q i v. go q i v (same-on rings k m o pair (unrank (8 * rings) x y n) q own-b (on-pair i));
             pending = λ p i d. still p i d (w .pending p i d);
@@ -184,7 +186,8 @@ module _ (rings k m o : ℕ) (pair : Pair rings k m o) (before : List ℕ) (vali
               go q i v (inr ne) = let a = w .marks q i (sym (reset-entry q i ne) ∙ v) in (a .0, later q (a .0) (a .1) ne)
 
               image-own : (p q : List ℕ) → InTable rings x y p → Of p q → InTable rings x y q
-              image-own p q i (g, l, e) = subst (λ (c : List ℕ). InTable rings x y c) e (image-table rings (pair .small) g (omega (arith, group .high)) x y p i)
+              image-own p q i (g, l, e) = subst (λ (c : List ℕ). InTable rings x y c) e
+                  (image-table rings (pair .small) g (omega (arith, group .high)) x y p i)
 
               still : (p : List ℕ) → InTable rings x y p → DepthIs level p
                   → (entryAt rings k now p ≡ level) ⊎ ((q : List ℕ) × Of p q × (entryAt rings k now q ≡ voidEntry))
@@ -227,7 +230,8 @@ module _ (rings k m o : ℕ) (pair : Pair rings k m o) (before : List ℕ) (vali
           elsewhere : (q : List ℕ) → OnPair rings m o q → (Of (unrank (8 * rings) x y n) q → ⊥)
               → successorEntry rings k all-written q ≡ successorEntry rings k now q
           elsewhere q s out =
-              written-others rings k m o pair x y (side .both) (unrank (8 * rings) x y n) in-b (t .own .start) (side .located .start-is) level now maps few q s out
+              written-others rings k m o pair x y (side .both) (unrank (8 * rings) x y n) in-b (t .own .start) (side .located .start-is) level now maps
+              few q s out
 
           elsewhere-own : (q : List ℕ) → InPair rings m o q → (Of (unrank (8 * rings) x y n) q → ⊥) → entryAt rings k all-written q ≡ entryAt rings k now q
           elsewhere-own q i out =
@@ -240,14 +244,18 @@ module _ (rings k m o : ℕ) (pair : Pair rings k m o) (before : List ℕ) (vali
           hit-all = record {
             kept = kept-then rings k (BothTables m o) before now all-written (w .kept)
                 (written-kept rings k m o pair x y (side .both) (unrank (8 * rings) x y n) in-b (t .own .start) (side .located .start-is) level now maps few);
-            room = written-length rings k m o pair x y (side .both) (unrank (8 * rings) x y n) in-b (t .own .start) (side .located .start-is) level now maps ∙ w .room;
+            room = written-length rings k m o pair x y (side .both) (unrank (8 * rings) x y n) in-b (t .own .start) (side .located .start-is) level now
+                maps ∙ w .room;
             amid = within-fewer (next rings) (λ c. pairSeed rings k m o before c) (OnPair rings m o) (view rings k all-written) level
                 (λ q. D q ⊎ Of (unrank (8 * rings) x y n) q) D (λ q d. inl d)
                 (written (next rings) (λ c. pairSeed rings k m o before c) (OnPair rings m o) (pair-ground rings k m o pair before valid) level low maps
-                (λ g c. image rings g c) mapped (view rings k now) D (w .amid) (w .symmetric) (unrank (8 * rings) x y n) on-b live-b (view rings k all-written) open-b found
+                (λ g c. image rings g c) mapped (view rings k now) D (w .amid) (w .symmetric) (unrank (8 * rings) x y n) on-b live-b
+                (view rings k all-written) open-b found
                 here-view (λ q s out. ap (λ (e : ℕ). opened e) (elsewhere q s out)) either);
-            symmetric = written-symmetric (next rings) (λ c. pairSeed rings k m o before c) (OnPair rings m o) (pair-ground rings k m o pair before valid) level low maps
-                (λ g c. image rings g c) mapped (view rings k now) D (w .amid) (w .symmetric) (unrank (8 * rings) x y n) on-b live-b (view rings k all-written) open-b found
+            symmetric = written-symmetric (next rings) (λ c. pairSeed rings k m o before c) (OnPair rings m o)
+                (pair-ground rings k m o pair before valid) level low maps
+                (λ g c. image rings g c) mapped (view rings k now) D (w .amid) (w .symmetric) (unrank (8 * rings) x y n) on-b live-b
+                (view rings k all-written) open-b found
                 here-view (λ q s out. ap (λ (e : ℕ). opened e) (elsewhere q s out)) either;
             marks = λ q i v. go q i v (either q (on-pair i));
             pending = λ p i d. still p i (on-pair (pair-table (side .both) i)) (w .pending p i d) (either p (on-pair (pair-table (side .both) i)));
@@ -260,12 +268,14 @@ module _ (rings k m o : ℕ) (pair : Pair rings k m o) (before : List ℕ) (vali
                   let a = w .marks q i (sym (elsewhere-own q i out) ∙ v) in (
                     a .0,
                     later q (a .0) (a .1) (λ e. out (subst (Of (unrank (8 * rings) x y n)) (sym e)
-                        (image-self (next rings) (λ c. pairSeed rings k m o before c) (OnPair rings m o) maps (λ g c. image rings g c) mapped (unrank (8 * rings) x y n)
+                        (image-self (next rings) (λ c. pairSeed rings k m o before c) (OnPair rings m o) maps (λ g c. image rings g c) mapped
+                        (unrank (8 * rings) x y n)
                         on-b))),
                   )
 
               image-own : (p q : List ℕ) → InTable rings x y p → Of p q → InTable rings x y q
-              image-own p q i (g, l, e) = subst (λ (c : List ℕ). InTable rings x y c) e (image-table rings (pair .small) g (omega (arith, group .high)) x y p i)
+              image-own p q i (g, l, e) = subst (λ (c : List ℕ). InTable rings x y c) e
+                  (image-table rings (pair .small) g (omega (arith, group .high)) x y p i)
 
               still : (p : List ℕ) → InTable rings x y p → OnPair rings m o p
                   → (entryAt rings k now p ≡ level) ⊎ ((q : List ℕ) × Of p q × (entryAt rings k now q ≡ voidEntry))
@@ -278,7 +288,8 @@ module _ (rings k m o : ℕ) (pair : Pair rings k m o) (before : List ℕ) (vali
                     q,
                     f,
                     elsewhere-own q (pair-table (side .both) (image-own p q i f)) (λ a. out
-                        (image-trans (next rings) (λ c. pairSeed rings k m o before c) (OnPair rings m o) maps (λ g c. image rings g c) mapped (unrank (8 * rings) x y n)
+                        (image-trans (next rings) (λ c. pairSeed rings k m o before c) (OnPair rings m o) maps (λ g c. image rings g c) mapped
+                        (unrank (8 * rings) x y n)
                         q p on-b a
                         (image-sym (next rings) (λ c. pairSeed rings k m o before c) (OnPair rings m o) maps (λ g c. image rings g c) mapped p q s f))) ∙ v,
                   )

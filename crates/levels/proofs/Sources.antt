@@ -96,7 +96,8 @@ module _ (rings : ℕ) (t : Table) (s : Source) (capture : Bool) (leads : Before
           let b = map-member (λ c. t .own .start + rank c) (predecessors capture rings (board r)) (e .2) in
           inr (e .0, e .1, (rank (b .0), rank-in rings (t .mover) (t .opponent) (b .0) (before-in r h (b .0) (b .1)), sym (b .2)))
 
-  gone-marked : (r : ℕ) → r < theirs → (tablebase : List ℕ) → MarkedPart (t .own .start) own tablebase (goneBack rings (t .own .start) capture picked (board r) tablebase)
+  gone-marked : (r : ℕ) → r < theirs → (tablebase : List ℕ)
+      → MarkedPart (t .own .start) own tablebase (goneBack rings (t .own .start) capture picked (board r) tablebase)
   unfolding goneBack
   gone-marked r h tablebase = go (picked (board r)) refl
     where
@@ -114,7 +115,8 @@ module _ (rings : ℕ) (t : Table) (s : Source) (capture : Bool) (leads : Before
       go true e = rw (e, markedPlace) (gone-marked r h tablebase)
       go false e = rw (e, markedPlace) (part-none (t .own .start) own tablebase)
 
-  pub from-marked : (tablebase : List ℕ) (n : ℕ) → n ≤ theirs → MarkedPart (t .own .start) own tablebase (markedFrom rings (t .own .start) s capture depth picked tablebase n)
+  pub from-marked : (tablebase : List ℕ) (n : ℕ) → n ≤ theirs
+      → MarkedPart (t .own .start) own tablebase (markedFrom rings (t .own .start) s capture depth picked tablebase n)
   unfolding markedFrom
   from-marked tablebase zero h = part-none (t .own .start) own tablebase
   from-marked tablebase (suc n) h =
@@ -151,7 +153,8 @@ module _ (rings : ℕ) (t : Table) (s : Source) (capture : Bool) (leads : Before
 
       go : Dec (r ≡ n) → (r < n → getD (markedFrom rings (t .own .start) s capture depth picked tablebase n) (t .own .start + rank b) 0 ≡ drawEntry → ⊥) → ⊥
       go (no k) lower =
-          closed-still (place-marked n h (markedFrom rings (t .own .start) s capture depth picked tablebase n)) (t .own .start + rank b) (lower (omega (arith, k))) d
+          closed-still (place-marked n h (markedFrom rings (t .own .start) s capture depth picked tablebase n)) (t .own .start + rank b)
+          (lower (omega (arith, k))) d
       go (yes q) lower =
           place-closed (markedFrom rings (t .own .start) s capture depth picked tablebase n) n
           (source-same (t .own .start) own tablebase (markedFrom rings (t .own .start) s capture depth picked tablebase n) w n

@@ -111,7 +111,8 @@ module _ (rings k m o : ℕ) (a b : Table) (before : List ℕ) (s : Setting (len
 
     -- it finds none: every entry is true
     pub nothing-decided : PairFound rings a b now false → Filled rings k limit (BothTables m o) (λ x. pairSeed rings k m o before x) before now
-    nothing-decided f = all-true (settled (next rings) (λ x. pairSeed rings k m o before x) (OnPair rings m o) (pair-ground rings k m o (s .pair) before valid)
+    nothing-decided f = all-true (settled (next rings) (λ x. pairSeed rings k m o before x) (OnPair rings m o)
+        (pair-ground rings k m o (s .pair) before valid)
         level low (λ c. successorEntry rings k now c) (st .exact) (λ c i e v. undecided c (live-pair rings k m o (s .pair) before valid c i e) v))
       where
         at : (x y r : ℕ) (t : Table) (same : ℕ) → Side rings k m o x y t same → r < size (8 * rings) x y → openDecided rings t same now r ≡ false
@@ -130,9 +131,11 @@ module _ (rings k m o : ℕ) (a b : Table) (before : List ℕ) (s : Setting (len
 
             go : Rank rings k m o a b before s valid c → decided (next rings) (λ x. successorEntry rings k now x) c ≡ false
             go (in-first r h q) = subst (λ (x : List ℕ). decided (next rings) (λ y. successorEntry rings k now y) x ≡ false) (sym q)
-                (at m o r a (b .own .start) (first-side s) h (f .0 r (subst (λ (n : ℕ). r < n) (sym first-size) h)) (ap (entryAt rings k now) (sym q) ∙ open-c))
+                (at m o r a (b .own .start) (first-side s) h (f .0 r (subst (λ (n : ℕ). r < n) (sym first-size) h))
+                (ap (entryAt rings k now) (sym q) ∙ open-c))
             go (in-second r h q) = subst (λ (x : List ℕ). decided (next rings) (λ y. successorEntry rings k now y) x ≡ false) (sym q)
-                (at o m r b (a .own .start) (second-side s) h (f .1 r (subst (λ (n : ℕ). r < n) (sym second-size) h)) (ap (entryAt rings k now) (sym q) ∙ open-c))
+                (at o m r b (a .own .start) (second-side s) h (f .1 r (subst (λ (n : ℕ). r < n) (sym second-size) h))
+                (ap (entryAt rings k now) (sym q) ∙ open-c))
 
     -- it finds one: that position has a forced end beyond the limit
     pub one-decided : PairFound rings a b now true → Deep rings k limit (BothTables m o) (λ x. pairSeed rings k m o before x)

@@ -53,12 +53,15 @@ module _ (rings k m o : ℕ) (a b : Table) (before : List ℕ) (s : Setting (len
       → Fits (length now) rings t same → Amidst (λ c. D c ⊎ InTable rings x y c) (levelByClasses rings t same level maps picked now)
   table-step x y t same side D now w fits = record {
     at-level = record {
-      kept = level-kept rings k m o (s .pair) before valid maps group mirrored picked picks x y t same side level pos low now fits D (w .at-level .amid) (w .symmetric)
+      kept = level-kept rings k m o (s .pair) before valid maps group mirrored picked picks x y t same side level pos low now fits D (w .at-level .amid)
+          (w .symmetric)
           (w .at-level .kept) room;
-      amid = level-table rings k m o (s .pair) before valid maps group mirrored picked picks x y t same side level pos low now fits D (w .at-level .amid) (w .symmetric)
+      amid = level-table rings k m o (s .pair) before valid maps group mirrored picked picks x y t same side level pos low now fits D
+          (w .at-level .amid) (w .symmetric)
           (w .at-level .kept) room;
     };
-    symmetric = level-symmetric rings k m o (s .pair) before valid maps group mirrored picked picks x y t same side level pos low now fits D (w .at-level .amid) (w .symmetric)
+    symmetric = level-symmetric rings k m o (s .pair) before valid maps group mirrored picked picks x y t same side level pos low now fits D
+        (w .at-level .amid) (w .symmetric)
         (w .at-level .kept) room;
   }
     where

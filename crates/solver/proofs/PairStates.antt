@@ -111,7 +111,8 @@ module _ (rings k m o : ℕ) (a b : Table) (before : List ℕ) (s : Setting (len
           seed-live : pairSeed rings k m o before c ≡ live
           seed-live = pair-live rings k m o (s .pair) before valid c i
 
-          held : (x y : ℕ) (t : Table) → Located (8 * rings) k x y t → count 1 c ≡ x → count 2 c ≡ y → entryAt rings k after c ≡ level → Holds after (t .own) level
+          held : (x y : ℕ) (t : Table) → Located (8 * rings) k x y t → count 1 c ≡ x → count 2 c ≡ y → entryAt rings k after c ≡ level
+              → Holds after (t .own) level
           held x y t l e f v =
               let p = part-place rings k x y t l c record { values = i .values; points = i .points; mover = e; opponent = f } in
               (place rings k c, p .0, p .1, sym (entry-place rings k after c) ∙ v)
@@ -121,7 +122,8 @@ module _ (rings k m o : ℕ) (a b : Table) (before : List ℕ) (s : Setting (len
           not-level (inr q) v = none .1 (held o m b (s .second) (q .0) (q .1) v)
 
           old : (j : ℕ) → j < level → Depth (next rings) (λ x. pairSeed rings k m o before x) j c → entryAt rings k after c ≡ j
-              → (entryAt rings k now c ≤ limit) ⊎ (entryAt rings k now c ≡ drawEntry) → (entryAt rings k after c ≤ limit) ⊎ (entryAt rings k after c ≡ drawEntry)
+              → (entryAt rings k now c ≤ limit) ⊎ (entryAt rings k now c ≡ drawEntry) → (entryAt rings k after c ≤ limit)
+              ⊎ (entryAt rings k after c ≡ drawEntry)
           old j l d e w =
               let u = st .exact .low c (on-pair i) seed-live j l d in
               let v = pair-entry rings k m o (s .pair) before valid now c i in

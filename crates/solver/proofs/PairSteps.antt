@@ -40,7 +40,8 @@ module _ (rings : ℕ) (a b : Table) (now once : List ℕ) where
     pub level-twice : once ≡ levelByClasses rings a (b .own .start) level maps picked now → (a .mover ≡ a .opponent → ⊥)
         → levelByClasses rings b (a .own .start) level maps picked once ≡ pairByClasses rings a b level maps picked now
     unfolding pairByClasses
-    level-twice is d = ap (λ (l : List ℕ). levelByClasses rings b (a .own .start) level maps picked l) is ∙ rw (ne-eqb (a .mover) (a .opponent) d, pairByClasses)
+    level-twice is d = ap (λ (l : List ℕ). levelByClasses rings b (a .own .start) level maps picked l) is
+        ∙ rw (ne-eqb (a .mover) (a .opponent) d, pairByClasses)
 
 -- the first table has none: the second decides
 pub second-found : (rings : ℕ) (a b : Table) (now : List ℕ)
@@ -70,7 +71,8 @@ last-held a b e now f g h true s = inr (inr s)
 last-held a b e now f g h false s = (f, g, h, s)
 
 module _ (a b : Table) (level : ℕ) (now : List ℕ) where
-  pub least-of : (p q r s : ℕ) → p ≡ leastFrom level (partOf (a .own .start) (a .own .end) now) → q ≡ leastFrom level (partOf (b .own .start) (b .own .end) now)
+  pub least-of : (p q r s : ℕ) → p ≡ leastFrom level (partOf (a .own .start) (a .own .end) now) → q
+      ≡ leastFrom level (partOf (b .own .start) (b .own .end) now)
       → r ≡ leastFrom level (partOf (a .lower .start) (a .lower .end) now) → s ≡ leastFrom level (partOf (b .lower .start) (b .lower .end) now)
       → min (min p q) (min r s) ≡ pairLeast a b level now
   unfolding pairLeast

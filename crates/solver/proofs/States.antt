@@ -42,7 +42,8 @@ module _ (rings k m o : ℕ) (a b : Table) (before : List ℕ) (s : Setting (len
     pub kept : Kept rings k (BothTables m o) before now
     pub exact : ExactBelow level now
     pub most : (c : List ℕ) → InPair rings m o c → (entryAt rings k now c ≤ limit) ⊎ (entryAt rings k now c ≡ drawEntry)
-    pub over : voidEntry < level → (c : List ℕ) → OnPair rings m o c → Entry (next rings) (λ x. pairSeed rings k m o before x) c (successorEntry rings k now c)
+    pub over : voidEntry < level → (c : List ℕ) → OnPair rings m o c
+        → Entry (next rings) (λ x. pairSeed rings k m o before x) c (successorEntry rings k now c)
 
   -- the tables opened
   pub state-start : (limit : ℕ) → State limit 0 (pairFilled a b drawEntry before)
@@ -142,7 +143,8 @@ module _ (rings k m o : ℕ) (a b : Table) (before : List ℕ) (s : Setting (len
 
     -- both tables, or the one where they are the same
     pub both-ended : (once twice after : List ℕ) → AtLevel Once once → AtLevel Twice twice
-        → after ≡ elim (eqb (a .mover) (a .opponent)) [ true ↦ once | false ↦ twice ] → Kept rings k (BothTables m o) before after × ExactBelow (suc level) after
+        → after ≡ elim (eqb (a .mover) (a .opponent)) [ true ↦ once | false ↦ twice ] → Kept rings k (BothTables m o) before after
+        × ExactBelow (suc level) after
     both-ended once twice after v w is = go (eqb (a .mover) (a .opponent)) refl
       where
         whose : (c : List ℕ) → InPair rings m o c → (x y : ℕ) → count 1 c ≡ x → count 2 c ≡ y → InTable rings x y c

@@ -195,11 +195,13 @@ module _ (rings : ℕ) (t : Table) (same level maps : ℕ) where
     pub level-is : (once twice last : List ℕ)
         → once ≡ markedFrom rings (t .own .start) (sameSource t same) false (level - 1) picked now (size (8 * rings) (t .opponent) (t .mover))
         → twice ≡ markedFrom rings (t .own .start) (lowerSource t) true (level - 1) picked once (size (8 * rings) (t .opponent - 1) (t .mover))
-        → last ≡ judgedFirst rings t same level maps twice (size (8 * rings) (t .mover) (t .opponent)) → last ≡ levelByClasses rings t same level maps picked now
+        → last ≡ judgedFirst rings t same level maps twice (size (8 * rings) (t .mover) (t .opponent)) → last
+        ≡ levelByClasses rings t same level maps picked now
     unfolding levelByClasses levelMarks
     level-is once twice last e f g =
         g ∙ ap (λ (l : List ℕ). judgedFirst rings t same level maps l (size (8 * rings) (t .mover) (t .opponent)))
-        (f ∙ ap (λ (l : List ℕ). markedFrom rings (t .own .start) (lowerSource t) true (level - 1) picked l (size (8 * rings) (t .opponent - 1) (t .mover))) e)
+        (f ∙ ap (λ (l : List ℕ). markedFrom rings (t .own .start) (lowerSource t) true (level - 1) picked l
+        (size (8 * rings) (t .opponent - 1) (t .mover))) e)
 
     pub level-length : length (levelByClasses rings t same level maps picked now) ≡ length now
     unfolding levelByClasses levelMarks

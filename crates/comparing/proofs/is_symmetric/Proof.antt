@@ -96,7 +96,8 @@ same-images-requires c κs =
 
 -- what is tested of it
 tested : (c : tie.After-same-images Inv-loop μ-loop)
-    → c .same-images .result ≡ sameImages (entered (c .before .before .before .before) .args .rings) (entered (c .before .before .before .before) .args .table .start)
+    → c .same-images .result ≡ sameImages (entered (c .before .before .before .before) .args .rings)
+    (entered (c .before .before .before .before) .args .table .start)
     (entered (c .before .before .before .before) .args .tablebase .now)
     (unrank (8 * entered (c .before .before .before .before) .args .rings) (entered (c .before .before .before .before) .args .table .mover)
     (entered (c .before .before .before .before) .args .table .opponent) (c .before .before .before .before .loop .r))
@@ -107,7 +108,8 @@ tested c =
     let x = k .before .before in
     let a = entered x .args in
     c .same-images .ensures
-    ∙ ap (λ (b : List ℕ). sameImages (a .rings) (a .table .start) (a .tablebase .now) b (getD (a .tablebase .now) (a .table .start + x .loop .r) 0)) (found k .1)
+    ∙ ap (λ (b : List ℕ). sameImages (a .rings) (a .table .start) (a .tablebase .now) b (getD (a .tablebase .now) (a .table .start + x .loop .r) 0))
+    (found k .1)
 
 returns : tie.Need-returns Inv-loop μ-loop
 returns c =
@@ -137,9 +139,11 @@ loop-again c =
     let a = entered x .args in (
       x .loop .inv .0,
       c .find-decided2 .ensures .high,
-      λ few. passed-over (a .rings) (a .table .start) (a .table .mover) (a .table .opponent) (a .tablebase .now) few (x .loop .r + 1) _ (c .find-decided2 .result)
+      λ few. passed-over (a .rings) (a .table .start) (a .table .mover) (a .table .opponent) (a .tablebase .now) few (x .loop .r + 1) _
+          (c .find-decided2 .result)
           (c .find-decided2 .ensures)
-          (passed-one (a .rings) (a .table .start) (a .table .mover) (a .table .opponent) (a .tablebase .now) few (x .loop .r) (sym (tested t) ∙ c .before .if1 .taken)
+          (passed-one (a .rings) (a .table .start) (a .table .mover) (a .table .opponent) (a .tablebase .now) few (x .loop .r)
+          (sym (tested t) ∙ c .before .if1 .taken)
           (x .loop .inv .2 few)),
       stands-at (a .rings) (a .table .mover) (a .table .opponent) _ (x .loop .r) (k .seek .result) (k .seek .ensures .0) (k .seek .ensures .1),
     )

@@ -18,7 +18,8 @@ image-has-requires-3 c κs = search needs
 returns : tie.Need-returns
 unfolding sameImages
 returns c =
-    ap₂ (λ (x y : Bool). x && y) (ap₂ (λ (x y : Bool). x && y) (c .before .before .image-has .ensures) (c .before .image-has2 .ensures)) (c .image-has3 .ensures)
+    ap₂ (λ (x y : Bool). x && y) (ap₂ (λ (x y : Bool). x && y) (c .before .before .image-has .ensures) (c .before .image-has2 .ensures))
+    (c .image-has3 .ensures)
 
 pub same-images-spec : {M : Type 1} → statement M
 same-images-spec =

@@ -33,7 +33,8 @@ of-fill-requires c κs = search needs
 returns : tie.Need-returns
 returns c =
     let a = c .before .before .before .before .before .args in
-    promise-refused (fillPicks (a .rings) (a .k) (a .limit) (length (a .tablebase .now))) (fill-last (a .rings) (a .k) (a .limit) (length (a .tablebase .now)))
+    promise-refused (fillPicks (a .rings) (a .k) (a .limit) (length (a .tablebase .now)))
+    (fill-last (a .rings) (a .k) (a .limit) (length (a .tablebase .now)))
     (λ (deep : Bool). WholeFill (a .rings) (a .k) (a .limit) (a .tablebase .now) (a .tablebase .now) deep) (a .tablebase .now) (a .tablebase .now)
     (c .before .of-fill .result) (c .if1 .taken) (c .before .of-fill .ensures)
 
@@ -57,7 +58,15 @@ solve-all-requires c κs =
         c .before .before .before .before .before .before .before .neighbour-masks .ensures,
         (
           c .before .before .before .before .before .before .mill-masks .ensures,
-          (w .tablebase .rings-high, w .tablebase .largest-low, w .tablebase .largest-high, w .tablebase .exact, omega (arith, w .limit-high), c .before .before .before .before .before .ring-images .ensures),
+          (
+            w .tablebase .rings-high,
+            w .tablebase .largest-low,
+            w .tablebase .largest-high,
+            w .tablebase .exact,
+            omega (arith, w .limit-high),
+            c .before
+                .before .before .before .before .ring-images .ensures,
+          ),
         ),
       ),
     )

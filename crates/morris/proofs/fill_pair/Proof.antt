@@ -133,7 +133,8 @@ returns-3 c =
     promise-deep (pairPicks (a .rings) (a .mover) (a .opponent) (a .k) (a .limit) (a .tablebase .now))
     (pair-last (a .rings) (a .mover) (a .opponent) (a .k) (a .limit) (a .tablebase .now))
     (λ (deep : Bool). PairFill (a .rings) (a .k) (a .mover) (a .opponent) (a .limit) (a .tablebase .now) (after) deep) (a .tablebase .now) after
-    (sym (decided x false (sym (c .before .before .before .before .before .before .before .before .before .before .before .before .before .lower-void .ensures)
+    (sym (decided x false (sym (c .before .before .before .before .before .before .before .before .before .before .before .before .before .lower-void
+    .ensures)
     ∙ c .before .before .before .before .before .before .before .before .before .before .before .before .if2 .left)))
     (subst (λ (deep : Bool). PairFill (a .rings) (a .k) (a .mover) (a .opponent) (a .limit) (a .tablebase .now) (after) deep) (c .if3 .taken)
     (c .before .before .before .solve-given .ensures))
@@ -149,7 +150,8 @@ returns-4 c =
     promise-filled (pairPicks (a .rings) (a .mover) (a .opponent) (a .k) (a .limit) (a .tablebase .now))
     (pair-last (a .rings) (a .mover) (a .opponent) (a .k) (a .limit) (a .tablebase .now))
     (λ (deep : Bool). PairFill (a .rings) (a .k) (a .mover) (a .opponent) (a .limit) (a .tablebase .now) (after) deep) (a .tablebase .now) after
-    (sym (decided x false (sym (c .before .before .before .before .before .before .before .before .before .before .before .before .before .lower-void .ensures)
+    (sym (decided x false (sym (c .before .before .before .before .before .before .before .before .before .before .before .before .before .lower-void
+    .ensures)
     ∙ c .before .before .before .before .before .before .before .before .before .before .before .before .if2 .left)))
     (subst (λ (deep : Bool). PairFill (a .rings) (a .k) (a .mover) (a .opponent) (a .limit) (a .tablebase .now) (after) deep) (c .if3 .left)
     (c .before .before .before .solve-given .ensures))

@@ -13,7 +13,8 @@ use Rattle.imaging.proofs.classes.write_images.Tie as tie
 
 abbrev Inv-loop : tie.InvT-loop
 Inv-loop tablebase₀ binomials images rings maps start end position entry written₀ tablebase written =
-    (written ≤ maps) × (length tablebase ≡ length tablebase₀) × (tablebase ≡ imagesWritten rings start (boardOf (8 * rings) position) entry tablebase₀ written)
+    (written ≤ maps) × (length tablebase ≡ length tablebase₀)
+    × (tablebase ≡ imagesWritten rings start (boardOf (8 * rings) position) entry tablebase₀ written)
 
 abbrev μ-loop : tie.MeasureT-loop
 μ-loop tablebase₀ binomials images rings maps start end position entry written₀ tablebase written = maps - written
@@ -60,7 +61,8 @@ loop-again c =
     let w = c .before .before .write-entry .ensures in (
       omega (arith, i .before .loop-test .taken),
       ap length w ∙ length-set (x .loop .tablebase) (a .start + k .rank .result) (a .entry) ∙ x .loop .inv .1,
-      w ∙ one-written (a .rings) (a .start) (boardOf (8 * a .rings) (a .position)) (a .entry) (a .tablebase .now) (x .loop .written) (x .loop .tablebase) (x .loop .inv .2)
+      w ∙ one-written (a .rings) (a .start) (boardOf (8 * a .rings) (a .position)) (a .entry) (a .tablebase .now) (x .loop .written)
+          (x .loop .tablebase) (x .loop .inv .2)
           (k .rank .result) (k .rank .ensures ∙ ap rank (i .image-of .ensures .0)),
     )
 

@@ -69,7 +69,8 @@ returns-3 c =
     let a = s .args in
     let p = s .pre .1 in
     set-two (a .rings) (a .g) (a .s) (p .0) (p .1) (p .2) (x .before .before .ring-image .result) (x .before .ring-image2 .result) (x .ring-image3 .result)
-    (x .before .before .ring-image .ensures) (x .before .ring-image2 .ensures) (x .ring-image3 .ensures) (omega (arith, c .before .before .if1 .left)) (c .if3 .taken)
+    (x .before .before .ring-image .ensures) (x .before .ring-image2 .ensures) (x .ring-image3 .ensures) (omega (arith, c .before .before .if1 .left))
+    (c .if3 .taken)
 
 returns-4 : tie.Need-returns-4
 returns-4 c =
@@ -78,7 +79,8 @@ returns-4 c =
     let a = s .args in
     let p = s .pre .1 in
     set-one (a .rings) (a .g) (a .s) (p .0) (p .1) (p .2) (x .before .before .ring-image .result) (x .before .ring-image2 .result) (x .ring-image3 .result)
-    (x .before .before .ring-image .ensures) (x .before .ring-image2 .ensures) (x .ring-image3 .ensures) (omega (arith, c .before .before .if1 .left)) (omega (arith, c .before .if2 .left, c .if3 .left, p .0))
+    (x .before .before .ring-image .ensures) (x .before .ring-image2 .ensures) (x .ring-image3 .ensures) (omega (arith, c .before .before .if1 .left))
+    (omega (arith, c .before .if2 .left, c .if3 .left, p .0))
 
 pub image-set-spec : {M : Type 1} → statement M
 image-set-spec =

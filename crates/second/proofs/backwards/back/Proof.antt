@@ -7,7 +7,8 @@ use Rattle.second.proofs.backwards.back.Statement.{statement}
 use Rattle.second.proofs.backwards.back.Tie as tie
 
 abbrev Inv-loop : tie.InvT-loop
-Inv-loop ways filled ply board entries₀ counts₀ points to₀ entries counts to = (to ≤ points) × (length entries ≡ length entries₀) × (length counts ≡ length counts₀)
+Inv-loop ways filled ply board entries₀ counts₀ points to₀ entries counts to = (to ≤ points) × (length entries ≡ length entries₀)
+    × (length counts ≡ length counts₀)
 
 abbrev μ-loop : tie.MeasureT-loop
 μ-loop ways filled ply board entries₀ counts₀ points to₀ entries counts to = points - to

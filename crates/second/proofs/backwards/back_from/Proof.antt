@@ -7,7 +7,8 @@ use Rattle.second.proofs.backwards.back_from.Statement.{statement}
 use Rattle.second.proofs.backwards.back_from.Tie as tie
 
 abbrev Inv-loop : tie.InvT-loop
-Inv-loop ways filled ply board to entries₀ counts₀ points from₀ entries counts from = (from ≤ points) × (length entries ≡ length entries₀) × (length counts ≡ length counts₀)
+Inv-loop ways filled ply board to entries₀ counts₀ points from₀ entries counts from = (from ≤ points) × (length entries ≡ length entries₀)
+    × (length counts ≡ length counts₀)
 
 abbrev μ-loop : tie.MeasureT-loop
 μ-loop ways filled ply board to entries₀ counts₀ points from₀ entries counts from = points - from

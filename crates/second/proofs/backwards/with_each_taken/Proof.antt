@@ -7,7 +7,8 @@ use Rattle.second.proofs.backwards.with_each_taken.Statement.{statement
 use Rattle.second.proofs.backwards.with_each_taken.Tie as tie
 
 abbrev Inv-loop : tie.InvT-loop
-Inv-loop ways filled ply board to entries₀ counts₀ points taken₀ entries counts taken = (taken ≤ points) × (length entries ≡ length entries₀) × (length counts ≡ length counts₀)
+Inv-loop ways filled ply board to entries₀ counts₀ points taken₀ entries counts taken = (taken ≤ points) × (length entries ≡ length entries₀)
+    × (length counts ≡ length counts₀)
 
 abbrev μ-loop : tie.MeasureT-loop
 μ-loop ways filled ply board to entries₀ counts₀ points taken₀ entries counts taken = points - taken

@@ -7,7 +7,8 @@ use Rattle.second.proofs.plies.open.Statement.{statement}
 use Rattle.second.proofs.plies.open.Tie as tie
 
 abbrev Inv-loop : tie.InvT-loop
-Inv-loop ways starts filled rings entries₀ counts₀ place₀ entries counts place = (place ≤ length entries₀) × (length entries ≡ length entries₀) × (length counts ≡ length counts₀)
+Inv-loop ways starts filled rings entries₀ counts₀ place₀ entries counts place = (place ≤ length entries₀) × (length entries ≡ length entries₀)
+    × (length counts ≡ length counts₀)
 
 abbrev μ-loop : tie.MeasureT-loop
 μ-loop ways starts filled rings entries₀ counts₀ place₀ entries counts place = length entries₀ - place

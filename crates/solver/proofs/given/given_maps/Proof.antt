@@ -22,7 +22,8 @@ first : (c : tie.Then1)
     (c .before .before .before .args .tablebase .now) (c .before .before .before .args .o - 1) (c .before .before .before .args .m)
 first c =
     let a = c .before .before .before .args in
-    subst (Decides (4 ≤ a .o → TableSymmetric symmetries (a .rings) (a .k) (a .tablebase .now) (a .o - 1) (a .m))) (c .if1 .taken) (c .before .lower-symmetric .ensures)
+    subst (Decides (4 ≤ a .o → TableSymmetric symmetries (a .rings) (a .k) (a .tablebase .now) (a .o - 1) (a .m))) (c .if1 .taken)
+    (c .before .lower-symmetric .ensures)
 
 all-maps-requires : tie.Need-all-maps-requires
 all-maps-requires c κs = search needs

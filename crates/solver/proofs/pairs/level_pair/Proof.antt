@@ -50,7 +50,8 @@ returns c =
     let k = c .before .before .before .before .before .before .before .before in
     let a = k .before .before .before .before .before .args in
     c .before .before .level-table2 .ensures
-    ∙ level-twice (a .rings) (a .first) (a .second) (a .tablebase .now) (k .level-table .last .0) (a .level) (a .maps) (leastOfClass (a .rings) (a .maps)) (k .level-table .ensures)
+    ∙ level-twice (a .rings) (a .first) (a .second) (a .tablebase .now) (k .level-table .last .0) (a .level) (a .maps)
+    (leastOfClass (a .rings) (a .maps)) (k .level-table .ensures)
     (c .before .before .before .before .if1 .taken)
 
 same-length-2 : tie.Need-same-length-2
@@ -60,7 +61,8 @@ returns-2 : tie.Need-returns-2
 returns-2 c =
     let k = c .before .before .before .before in
     let a = k .before .before .before .before .before .args in
-    level-once (a .rings) (a .first) (a .second) (a .tablebase .now) (k .level-table .last .0) (a .level) (a .maps) (leastOfClass (a .rings) (a .maps)) (k .level-table .ensures) (c .if1 .left)
+    level-once (a .rings) (a .first) (a .second) (a .tablebase .now) (k .level-table .last .0) (a .level) (a .maps) (leastOfClass (a .rings) (a .maps))
+    (k .level-table .ensures) (c .if1 .left)
 
 pub level-pair-spec : {M : Type 1} → statement M
 level-pair-spec =

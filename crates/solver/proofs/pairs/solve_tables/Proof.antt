@@ -26,7 +26,8 @@ use Rattle.solver.proofs.pairs.solve_tables.Tie as tie
 abbrev Inv-loop : tie.InvT-loop
 Inv-loop tablebase₀ binomials near mills images rings maps k first second limit level₀ tablebase level =
     (before : List ℕ) (s : Setting (length before) rings k (first .mover) (first .opponent) first second)
-    (valid : LowerValid rings k (first .mover) (first .opponent) before) → LowerSymmetric maps rings k (first .mover) (first .opponent) before → tablebase₀ ≡ pairBlocked rings first second (pairFilled first second drawEntry before)
+    (valid : LowerValid rings k (first .mover) (first .opponent) before) → LowerSymmetric maps rings k (first .mover) (first .opponent) before
+    → tablebase₀ ≡ pairBlocked rings first second (pairFilled first second drawEntry before)
     → (0 < level) × State rings k (first .mover) (first .opponent) first second before s valid limit level tablebase
 
 abbrev μ-loop : tie.MeasureT-loop
@@ -58,7 +59,8 @@ module _ (c : tie.After-level-pair Inv-loop μ-loop) (before : List ℕ)
     (entered (c .before .before .before) .args .first) (entered (c .before .before .before) .args .second))
     (valid : LowerValid (entered (c .before .before .before) .args .rings) (entered (c .before .before .before) .args .k)
     (entered (c .before .before .before) .args .first .mover) (entered (c .before .before .before) .args .first .opponent) before)
-    (mirrored : LowerSymmetric (entered (c .before .before .before) .args .maps) (entered (c .before .before .before) .args .rings) (entered (c .before .before .before) .args .k)
+    (mirrored : LowerSymmetric (entered (c .before .before .before) .args .maps) (entered (c .before .before .before) .args .rings)
+    (entered (c .before .before .before) .args .k)
     (entered (c .before .before .before) .args .first .mover) (entered (c .before .before .before) .args .first .opponent) before)
     (st : State (entered (c .before .before .before) .args .rings) (entered (c .before .before .before) .args .k)
     (entered (c .before .before .before) .args .first .mover) (entered (c .before .before .before) .args .first .opponent)
@@ -88,7 +90,8 @@ there c =
     let x = c .before .before .before in
     let s = entered x in
     setting-now (length (c .level-pair .last .0))
-    (levelled c (s .args .tablebase .now) (s .pre .1 .1 .1 .0) (s .pre .1 .1 .1 .1 .0) (s .pre .1 .1 .1 .1 .4) (state x .1) .0 .same-length) (s .pre .1 .1 .1 .0)
+    (levelled c (s .args .tablebase .now) (s .pre .1 .1 .1 .0) (s .pre .1 .1 .1 .1 .0) (s .pre .1 .1 .1 .1 .4) (state x .1) .0 .same-length)
+    (s .pre .1 .1 .1 .0)
 
 fill-pair-requires : tie.Need-fill-pair-requires Inv-loop μ-loop
 fill-pair-requires c κs = in-room (c .before .before .pre .1 .1 .1 .0)
@@ -99,7 +102,8 @@ sweep-pair-requires c κs =
     let s = f .before .before .before in
     let a = s .args in
     let w = setting-now (length (f .fill-pair .last .0)) (ap length (f .fill-pair .ensures)
-    ∙ pair-kept (a .rings) (a .k) (a .first .mover) (a .first .opponent) (a .first) (a .second) (a .tablebase .now) (s .pre .1 .1 .1 .0) drawEntry .same-length)
+    ∙ pair-kept (a .rings) (a .k) (a .first .mover) (a .first .opponent) (a .first) (a .second) (a .tablebase .now) (s .pre .1 .1 .1 .0) drawEntry
+    .same-length)
     (s .pre .1 .1 .1 .0) in
     (s .pre .0, (s .pre .1 .0, (w .pair .small, first-lies w, second-lies w)))
 
@@ -120,7 +124,20 @@ level-pair-requires c κs =
       s .pre .0,
       (
         s .pre .1 .0,
-        (s .pre .1 .1 .0, (first-fits w, first-counted w, second-fits w, second-counted w, state x .0, c .before .loop-test .taken, s .pre .1 .1 .1 .1 .2, group-of (s .args .maps) (s .pre .1 .1 .1 .1 .3) .high)),
+        (
+          s .pre .1 .1 .0,
+          (
+            first-fits w,
+            first-counted w,
+            second-fits w,
+            second-counted w,
+            state x .0,
+            c .before .loop-test .taken,
+            s .pre .1 .1 .1 .1
+                .2,
+            group-of (s .args .maps) (s .pre .1 .1 .1 .1 .3) .high,
+          ),
+        ),
       ),
     )
 
@@ -173,8 +190,11 @@ stepped : (c : tie.After-pair-least Inv-loop μ-loop) (before : List ℕ)
     (entered (c .before .before .before .before .before .before .before .before .before .before) .args .k)
     (entered (c .before .before .before .before .before .before .before .before .before .before) .args .first .mover)
     (entered (c .before .before .before .before .before .before .before .before .before .before) .args .first .opponent) before)
-    → LowerSymmetric (entered (c .before .before .before .before .before .before .before .before .before .before) .args .maps) (entered (c .before .before .before .before .before .before .before .before .before .before) .args .rings) (entered (c .before .before .before .before .before .before .before .before .before .before) .args .k)
-    (entered (c .before .before .before .before .before .before .before .before .before .before) .args .first .mover) (entered (c .before .before .before .before .before .before .before .before .before .before) .args .first .opponent) before
+    → LowerSymmetric (entered (c .before .before .before .before .before .before .before .before .before .before) .args .maps)
+    (entered (c .before .before .before .before .before .before .before .before .before .before) .args .rings)
+    (entered (c .before .before .before .before .before .before .before .before .before .before) .args .k)
+    (entered (c .before .before .before .before .before .before .before .before .before .before) .args .first .mover)
+    (entered (c .before .before .before .before .before .before .before .before .before .before) .args .first .opponent) before
     → State _ _ _ _ _ _ before s valid (entered (c .before .before .before .before .before .before .before .before .before .before) .args .limit)
     (c .before .before .before .before .before .before .before .before .before .before .loop .level)
     (c .before .before .before .before .before .before .before .before .before .before .loop .tablebase)

@@ -110,7 +110,8 @@ loop-again c =
       omega (arith, x .loop .inv .0),
       omega (arith, c .before .before .before .before .before .loop-test .taken),
       e .0 ∙ x .loop .inv .2,
-      subst (PairsFilled (s .args .rings) (s .args .k) (s .args .limit) (x .loop .m + 1) 3 (c .before .before .before .solve-row .last .0)) (c .if1 .left) (e .1),
+      subst (PairsFilled (s .args .rings) (s .args .k) (s .args .limit) (x .loop .m + 1) 3 (c .before .before .before .solve-row .last .0))
+          (c .if1 .left) (e .1),
     )
 
 same-length-2 : tie.Need-same-length-2 Inv-loop μ-loop

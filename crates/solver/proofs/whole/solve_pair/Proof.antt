@@ -38,7 +38,14 @@ solve-tables-requires c κs =
           (
             by-counts (λ x y. Setting (length (a .tablebase .now)) (a .rings) (a .k) x y (c .before .before .table-of .result)
                 (c .before .table-of2 .result)) (t .mover-is) (t .opponent-is)
-                record { pair = s .pre .1 .1 .1 .0 .0; few = s .pre .1 .1 .1 .0 .1; room = s .pre .1 .1 .1 .0 .2; first = t; second = c .before .table-of2 .ensures },
+                record {
+                  pair = s .pre .1 .1 .1 .0 .0;
+                  few = s .pre .1 .1 .1 .0 .1;
+                  room = s .pre .1 .1 .1 .0 .2;
+                  first = t;
+                  second = c .before
+                      .table-of2 .ensures;
+                },
             (
               by-counts (λ x y. LowerValid (a .rings) (a .k) x y (a .tablebase .now)) (t .mover-is) (t .opponent-is) (s .pre .1 .1 .1 .1 .0),
               s .pre .1 .1 .1 .1 .1,

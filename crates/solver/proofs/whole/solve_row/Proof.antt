@@ -26,7 +26,8 @@ abbrev entered : tie.At-loop Inv-loop μ-loop → tie.Start Inv-loop μ-loop
 entered x = x .before .before
 
 -- the next pair
-pair-in : (x : tie.At-loop Inv-loop μ-loop) → x .loop .o ≤ entered x .args .m → Pair (entered x .args .rings) (entered x .args .k) (entered x .args .m) (x .loop .o)
+pair-in : (x : tie.At-loop Inv-loop μ-loop) → x .loop .o ≤ entered x .args .m
+    → Pair (entered x .args .rings) (entered x .args .k) (entered x .args .m) (x .loop .o)
 pair-in x h =
     let p = entered x .pre .1 .1 .1 .0 .0 in
     record {

@@ -23,7 +23,8 @@ fits-once c =
     let a = s .args in
     let p = s .pre .1 .1 .1 in
     subst (λ (n : ℕ). Fits n (a .rings) (a .table) (a .same)) (sym (ap length (c .mark-table .ensures)
-    ∙ from-length (a .rings) (a .table .own .start) (sameSource (a .table) (a .same)) false (a .level - 1) (leastOfClass (a .rings) (a .maps)) (a .tablebase .now)
+    ∙ from-length (a .rings) (a .table .own .start) (sameSource (a .table) (a .same)) false (a .level - 1) (leastOfClass (a .rings) (a .maps))
+    (a .tablebase .now)
     (size (8 * a .rings) (a .table .opponent) (a .table .mover)))) (p .0)
 
 sub-mark-table : tie.Need-sub-mark-table
@@ -101,7 +102,8 @@ judge-marked-requires c κs =
           s .pre .1 .1 .0,
           (
             subst (λ (n : ℕ). Fits n (a .rings) (a .table) (a .same)) (sym (ap length (d .mark-table2 .ensures)
-                ∙ from-length (a .rings) (a .table .own .start) (lowerSource (a .table)) true (a .level - 1) (leastOfClass (a .rings) (a .maps)) (k .mark-table .last .0)
+                ∙ from-length (a .rings) (a .table .own .start) (lowerSource (a .table)) true (a .level - 1) (leastOfClass (a .rings) (a .maps))
+                (k .mark-table .last .0)
                 (size (8 * a .rings) (a .table .opponent - 1) (a .table .mover)))) (fits-once k),
             p .5,
             p .6,
@@ -120,7 +122,8 @@ returns c =
     let d = j .before .before .before .before in
     let k = d .before .before .before .before .before in
     let a = k .before .before .before .before .args in
-    level-is (a .rings) (a .table) (a .same) (a .level) (a .maps) (leastOfClass (a .rings) (a .maps)) (a .tablebase .now) (k .mark-table .last .0) (d .mark-table2 .last .0) (j .judge-marked .last .0)
+    level-is (a .rings) (a .table) (a .same) (a .level) (a .maps) (leastOfClass (a .rings) (a .maps)) (a .tablebase .now) (k .mark-table .last .0)
+    (d .mark-table2 .last .0) (j .judge-marked .last .0)
     (k .mark-table .ensures) (d .mark-table2 .ensures) (j .judge-marked .ensures)
 
 pub level-table-spec : {M : Type 1} → statement M

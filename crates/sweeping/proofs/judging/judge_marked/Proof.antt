@@ -44,7 +44,8 @@ loop-holds c =
       omega (arith, s .pre .1 .1 .1 .0 .end-is),
       c .find-mark .ensures .high,
       refl,
-      judged-over (a .rings) (a .table) (a .same) (a .level) (a .maps) (a .tablebase .now) 0 _ (c .find-mark .result) (a .tablebase .now) (c .find-mark .ensures)
+      judged-over (a .rings) (a .table) (a .same) (a .level) (a .maps) (a .tablebase .now) 0 _ (c .find-mark .result) (a .tablebase .now)
+          (c .find-mark .ensures)
           (judged-none (a .rings) (a .table) (a .same) (a .level) (a .maps) (a .tablebase .now)),
       c .find-mark .ensures .here,
       λ h. absurd (omega (arith, c .before .before .nowhere .ensures)),
@@ -91,7 +92,8 @@ stepped : (c : tie.After-judge-place Inv-loop μ-loop)
     → (length (c .judge-place .last .0) ≡ length (c .before .before .before .before .loop .tablebase))
     × (c .judge-place .last .0 ≡ judgedFirst (entered (c .before .before .before .before) .args .rings)
     (entered (c .before .before .before .before) .args .table) (entered (c .before .before .before .before) .args .same)
-    (entered (c .before .before .before .before) .args .level) (entered (c .before .before .before .before) .args .maps) (entered (c .before .before .before .before) .args .tablebase .now)
+    (entered (c .before .before .before .before) .args .level) (entered (c .before .before .before .before) .args .maps)
+    (entered (c .before .before .before .before) .args .tablebase .now)
     (c .before .before .before .before .loop .r + 1))
 stepped c =
     let x = c .before .before .before .before in
@@ -124,7 +126,8 @@ loop-again c =
       x .loop .inv .0,
       c .find-mark2 .ensures .high,
       stepped d .0 ∙ x .loop .inv .2,
-      judged-over (a .rings) (a .table) (a .same) (a .level) (a .maps) (a .tablebase .now) (x .loop .r + 1) _ (c .find-mark2 .result) (d .judge-place .last .0)
+      judged-over (a .rings) (a .table) (a .same) (a .level) (a .maps) (a .tablebase .now) (x .loop .r + 1) _ (c .find-mark2 .result)
+          (d .judge-place .last .0)
           (c .find-mark2 .ensures) (stepped d .1),
       c .find-mark2 .ensures .here,
       stands-at (a .rings) (a .table .mover) (a .table .opponent) _ (x .loop .r) (k .seek .result) (k .seek .ensures .0) (k .seek .ensures .1),

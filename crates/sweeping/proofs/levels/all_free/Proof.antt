@@ -21,7 +21,8 @@ returns : tie.Need-returns
 unfolding allFree
 returns c =
     let a = c .before .before .args in
-    neither (eqb (a .table .mover) 3) (ltb 3 (8 * a .rings - a .table .opponent)) (le-ltb 3 (8 * a .rings - a .table .opponent) (omega (arith, c .if1 .taken)))
+    neither (eqb (a .table .mover) 3) (ltb 3 (8 * a .rings - a .table .opponent))
+    (le-ltb 3 (8 * a .rings - a .table .opponent) (omega (arith, c .if1 .taken)))
 
 sub-result : tie.Need-sub-result
 sub-result c = search needs

@@ -78,7 +78,8 @@ sweep-place-requires-2 c κs =
     let a = s .args in
     let p = s .pre .1 .1 in
     let t = c .before .before .before .before .before .loop-test .taken in
-    let e = ap length (c .before .before .before .sweep-place .ensures) ∙ blocked-length (a .rings) (a .table) (x .loop .r) (x .loop .tablebase) ∙ x .loop .inv .1 in (
+    let e = ap length (c .before .before .before .sweep-place .ensures) ∙ blocked-length (a .rings) (a .table) (x .loop .r) (x .loop .tablebase)
+    ∙ x .loop .inv .1 in (
       s .pre .1 .0,
       ((p .0, subst (λ (n : ℕ). Lies (8 * a .rings) (a .table) n) (sym e) (p .1), omega (arith, t, p .3)), x .loop .inv .4 t),
     )
@@ -91,7 +92,12 @@ ahead-requires c κs =
     ((p .0, t, omega (arith, p .3)), x .loop .inv .3 t)
 
 add-ahead : tie.Need-add-ahead Inv-loop μ-loop
-add-ahead c = omega (arith, small (entered (c .before .before .before .before .before .before .before .before .before .before)), c .before .before .before .before .before .before .before .before .before .loop-test .taken)
+add-ahead c = omega (
+  arith,
+  small (entered (c .before .before .before .before .before .before .before .before .before .before)),
+  c .before .before
+      .before .before .before .before .before .before .before .loop-test .taken,
+)
 
 add-ahead-2 : tie.Need-add-ahead-2 Inv-loop μ-loop
 add-ahead-2 c = omega (arith, small (entered (c .before .before .before .before .before .before .before .before .before .before)))
@@ -104,7 +110,12 @@ ahead-requires-2 c κs =
     ((p .0, omega (arith, t), p .3), x .loop .inv .4 t)
 
 add-r : tie.Need-add-r Inv-loop μ-loop
-add-r c = omega (arith, small (entered (c .before .before .before .before .before .before .before .before .before .before .before)), c .before .before .before .before .before .before .before .before .before .before .loop-test .taken)
+add-r c = omega (
+  arith,
+  small (entered (c .before .before .before .before .before .before .before .before .before .before .before)),
+  c .before .before
+      .before .before .before .before .before .before .before .before .loop-test .taken,
+)
 
 loop-less : tie.Need-loop-less Inv-loop μ-loop
 loop-less c = omega (arith, c .before .before .before .before .before .before .before .before .before .before .loop-test .taken)

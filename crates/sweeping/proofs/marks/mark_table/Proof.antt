@@ -22,7 +22,8 @@ use Rattle.sweeping.proofs.marks.mark_table.Tie as tie
 abbrev Inv-loop : tie.InvT-loop
 Inv-loop tablebase₀ binomials near mills images rings maps source capture depth own n at₀ r₀ tablebase at r =
     (n ≡ size (8 * rings) (source .mover) (source .opponent)) × (r ≤ n) × (length tablebase ≡ length tablebase₀)
-    × (tablebase ≡ markedFrom rings (own .start) source capture depth (leastOfClass rings maps) tablebase₀ r) × (r < n → isSource source depth tablebase r ≡ true)
+    × (tablebase ≡ markedFrom rings (own .start) source capture depth (leastOfClass rings maps) tablebase₀ r)
+    × (r < n → isSource source depth tablebase r ≡ true)
     × Stands rings (source .mover) (source .opponent) n at
 
 abbrev μ-loop : tie.MeasureT-loop
@@ -42,7 +43,8 @@ found c =
     let x = c .before .before in
     let s = entered x in
     let a = s .args in
-    placed-at (a .rings) (s .pre .1 .1 .1 .0) (a .source .mover) (a .source .opponent) (x .loop .r) (omega (arith, c .before .loop-test .taken, x .loop .inv .0))
+    placed-at (a .rings) (s .pre .1 .1 .1 .0) (a .source .mover) (a .source .opponent) (x .loop .r)
+    (omega (arith, c .before .loop-test .taken, x .loop .inv .0))
     (c .seek .result .position) (c .seek .ensures .1)
 
 mul-size : tie.Need-mul-size Inv-loop μ-loop
@@ -67,8 +69,10 @@ loop-holds c =
       c .before .before .before .size .ensures,
       c .find-source .ensures .high,
       refl,
-      from-over (a .rings) (a .table .own .start) (a .source) (a .capture) (a .depth) (leastOfClass (a .rings) (a .maps)) (a .tablebase .now) 0 _ (c .find-source .result) (a .tablebase .now)
-          (c .find-source .ensures) (from-none (a .rings) (a .table .own .start) (a .source) (a .capture) (a .depth) (leastOfClass (a .rings) (a .maps)) (a .tablebase .now)),
+      from-over (a .rings) (a .table .own .start) (a .source) (a .capture) (a .depth) (leastOfClass (a .rings) (a .maps)) (a .tablebase .now) 0 _
+          (c .find-source .result) (a .tablebase .now)
+          (c .find-source .ensures) (from-none (a .rings) (a .table .own .start) (a .source) (a .capture) (a .depth) (leastOfClass (a .rings) (a .maps))
+          (a .tablebase .now)),
       c .find-source .ensures .here,
       λ h. absurd (omega (arith, c .before .before .nowhere .ensures)),
     )
@@ -122,7 +126,8 @@ stepped c =
     let e = c .mark-source .ensures
     ∙ marked-place (a .rings) (a .table .own .start) (a .source) (a .capture) (a .depth) (leastOfClass (a .rings) (a .maps)) (x .loop .r) (x .loop .tablebase)
     (x .loop .inv .4 (k .before .loop-test .taken)) _ (found k .1) in (
-      ap length e ∙ place-length (a .rings) (a .table .own .start) (a .source) (a .capture) (a .depth) (leastOfClass (a .rings) (a .maps)) (x .loop .r) (x .loop .tablebase),
+      ap length e ∙ place-length (a .rings) (a .table .own .start) (a .source) (a .capture) (a .depth) (leastOfClass (a .rings) (a .maps)) (x .loop .r)
+          (x .loop .tablebase),
       e ∙ from-step (a .rings) (a .table .own .start) (a .source) (a .capture) (a .depth) (leastOfClass (a .rings) (a .maps)) (a .tablebase .now) (x .loop .r)
           (x .loop .tablebase) (x .loop .inv .3),
     )
@@ -151,7 +156,8 @@ loop-again c =
       x .loop .inv .0,
       c .find-source2 .ensures .high,
       stepped d .0 ∙ x .loop .inv .2,
-      from-over (a .rings) (a .table .own .start) (a .source) (a .capture) (a .depth) (leastOfClass (a .rings) (a .maps)) (a .tablebase .now) (x .loop .r + 1) _ (c .find-source2 .result)
+      from-over (a .rings) (a .table .own .start) (a .source) (a .capture) (a .depth) (leastOfClass (a .rings) (a .maps)) (a .tablebase .now)
+          (x .loop .r + 1) _ (c .find-source2 .result)
           (d .mark-source .last .0) (c .find-source2 .ensures) (stepped d .1),
       c .find-source2 .ensures .here,
       stands-at (a .rings) (a .source .mover) (a .source .opponent) _ (x .loop .r) (k .seek .result) (k .seek .ensures .0) (k .seek .ensures .1),
@@ -165,7 +171,8 @@ returns c =
     let x = c .before in
     let a = entered x .args in
     let e : x .loop .r ≡ size (8 * a .rings) (a .source .mover) (a .source .opponent) = omega (arith, c .loop-test .left, x .loop .inv .0, x .loop .inv .1) in
-    x .loop .inv .3 ∙ ap (markedFrom (a .rings) (a .table .own .start) (a .source) (a .capture) (a .depth) (leastOfClass (a .rings) (a .maps)) (a .tablebase .now)) e
+    x .loop .inv .3 ∙ ap (markedFrom (a .rings) (a .table .own .start) (a .source) (a .capture) (a .depth) (leastOfClass (a .rings) (a .maps))
+    (a .tablebase .now)) e
 
 pub mark-table-spec : {M : Type 1} → statement M
 mark-table-spec =
