@@ -8,14 +8,13 @@ use Prim.Native.Nat.{ℕ, suc, _+_, _-_, _*_, _≤_, _<_}
 use native.Mathlib.Omega.{arith}
 use lib.Dec.{ltb}
 use lib.ListN.{length, getD}
-use borrow.Author.Tests.{eq-eqb, lt-ltb, le-ltb, ltb-true, ltb-false}
+use borrow.Author.Tests.{ltb-true, ltb-false}
 use Rattle.board.specs.Board.{Values, count}
 use Rattle.sizes.specs.Size.{size}
 use Rattle.ranking.specs.Rank.{rank}
 use Rattle.ranking.specs.Unrank.{unrank}
 use Rattle.layout.specs.Layout.{start, tablebaseLength}
 use Rattle.rules.specs.Ply.{removable}
-use Rattle.rules.specs.Predecessors.{predecessors}
 use Rattle.rules.proofs.Listed.{successor-of, removable-takes}
 use Rattle.rules.proofs.Leads.{ply-leads}
 use Rattle.rules.proofs.Found.{Found, found}
@@ -27,7 +26,7 @@ use Rattle.outcomes.specs.Places.{place, entryAt, successorEntry}
 use Rattle.outcomes.specs.Whole.{next}
 use Rattle.outcomes.specs.Pair.{Pair, pairSeed, LowerValid}
 use Rattle.outcomes.specs.Filled.{BothTables, Kept}
-use Rattle.outcomes.proofs.Ranked.{InTable, unrank-in, rank-in, unrank-of, place-at, place-unrank, one-board}
+use Rattle.outcomes.proofs.Ranked.{InTable, unrank-in, place-at, place-unrank, one-board}
 use Rattle.outcomes.proofs.PairGame.{OnPair, InPair, on-pair, pair-table, stands-own}
 use Rattle.outcomes.proofs.Entries.{entry-place, entry-rank, entry-two, entry-three, kept-then}
 use Rattle.outcomes.proofs.PairLevels.{Amid, pair-live, live-pair, pair-ground, pair-seeded, pair-entry}
@@ -39,86 +38,14 @@ use Rattle.invariance.proofs.Groups.{Group}
 use Rattle.invariance.proofs.PairMaps.{image-table}
 use Rattle.imaging.proofs.Picked.{Picks}
 use Rattle.sweeping.specs.declared.tables.Table.{Table}
-use Rattle.sweeping.specs.declared.marks.Source.{Source}
 use Rattle.sweeping.specs.Levels.{Fits}
 use Rattle.sweeping.proofs.Probed.{lower-starts}
 use Rattle.levels.proofs.Sides.{Side, sizes}
-use Rattle.sweeping.proofs.Sources.{same-before, lower-before}
-use Rattle.sweeping.specs.Marked.{sameSource, lowerSource, isSource, markedFrom, levelMarks, judgedFirst, levelByClasses}
+use Rattle.sweeping.specs.Marked.{sameSource, lowerSource, isSource, levelMarks, judgedFirst, levelByClasses}
 use Rattle.levels.proofs.Views.{opened, opened-mark, opened-other, view}
-use Rattle.levels.proofs.Sources.{MarkedIn, MarkedPart, part-then, closed-still, from-marked, source-same, from-closed}
+use Rattle.levels.proofs.Sources.{MarkedIn, MarkedPart}
 use Rattle.levels.proofs.Judging.{mapped, SymmetricTable, Judging, judged-all, no-marks, all-done}
-
--- the marks
-module _ (rings : ℕ) (t : Table) (same level maps : ℕ) (picked : List ℕ → Bool) (low : level < voidEntry) (three : 3 ≤ t .opponent) (clean : List ℕ)
-    (fits : Fits (length clean) rings t same) where
-  abbrev own : ℕ
-  own = size (8 * rings) (t .mover) (t .opponent)
-
-  abbrev once : List ℕ
-  once = markedFrom rings (t .own .start) (sameSource t same) false (level - 1) picked clean (size (8 * rings) (t .opponent) (t .mover))
-
-  once-marked : MarkedPart (t .own .start) own clean once
-  once-marked =
-      from-marked rings t (sameSource t same) false (same-before t same) (level - 1) (omega arith) picked clean
-      (size (8 * rings) (t .opponent) (t .mover)) (omega arith)
-
-  rest-marked : MarkedPart (t .own .start) own once (levelMarks rings t same level maps picked clean)
-  unfolding levelMarks
-  rest-marked =
-      from-marked rings t (lowerSource t) true (lower-before t three) (level - 1) (omega arith) picked once
-      (size (8 * rings) (t .opponent - 1) (t .mover)) (omega arith)
-
-  pub all-marked : MarkedPart (t .own .start) own clean (levelMarks rings t same level maps picked clean)
-  all-marked = part-then once-marked rest-marked
-
-  -- an open board before a picked one of the depth below is marked
-  module _ (p : List ℕ) (i : InTable rings (t .mover) (t .opponent) p) (blank : getD clean (t .own .start + rank p) 0 ≡ drawEntry) where
-    fits-in : t .own .start + rank p < length clean
-    fits-in = omega (arith, fits .end-is, fits .room, rank-in rings (t .mover) (t .opponent) p i)
-
-    closed-marked : (getD (levelMarks rings t same level maps picked clean) (t .own .start + rank p) 0 ≡ drawEntry → ⊥)
-        → getD (levelMarks rings t same level maps picked clean) (t .own .start + rank p) 0 ≡ voidEntry
-    closed-marked c = go (all-marked .at (t .own .start + rank p))
-      where
-        go : MarkedIn (t .own .start) own clean (levelMarks rings t same level maps picked clean) (t .own .start + rank p)
-            → getD (levelMarks rings t same level maps picked clean) (t .own .start + rank p) 0 ≡ voidEntry
-        go (inl e) = absurd (c (e ∙ blank))
-        go (inr e) = e .1
-
-    pub same-found : (q : List ℕ) → InTable rings (t .opponent) (t .mover) q → List·Memᴰ p (predecessors false rings q) → picked q ≡ true
-        → isSource (sameSource t same) (level - 1) clean (rank q) ≡ true
-        → getD (levelMarks rings t same level maps picked clean) (t .own .start + rank p) 0 ≡ voidEntry
-    same-found q j f c e =
-        let back = sym (unrank-of rings (t .opponent) (t .mover) q j) in
-        closed-marked (closed-still rest-marked (t .own .start + rank p)
-        (from-closed rings t (sameSource t same) false (same-before t same) (level - 1) (omega arith) picked clean
-        (size (8 * rings) (t .opponent) (t .mover)) (omega arith)
-        (rank q) (rank-in rings (t .opponent) (t .mover) q j) e (subst (λ (b : List ℕ). picked b ≡ true) back c) p
-        (subst (λ (b : List ℕ). List·Memᴰ p (predecessors false rings b)) back f) fits-in))
-
-    pub lower-found : (q : List ℕ) → InTable rings (t .opponent - 1) (t .mover) q → List·Memᴰ p (predecessors true rings q) → picked q ≡ true
-        → isSource (lowerSource t) (level - 1) clean (rank q) ≡ true
-        → getD (levelMarks rings t same level maps picked clean) (t .own .start + rank p) 0 ≡ voidEntry
-    unfolding levelMarks
-    lower-found q j f c e =
-        let back = sym (unrank-of rings (t .opponent - 1) (t .mover) q j) in
-        closed-marked (from-closed rings t (lowerSource t) true (lower-before t three) (level - 1) (omega arith) picked once
-        (size (8 * rings) (t .opponent - 1) (t .mover))
-        (omega arith) (rank q) (rank-in rings (t .opponent - 1) (t .mover) q j)
-        (source-same rings t (lowerSource t) true (lower-before t three) (level - 1) (omega arith) picked (t .own .start) own clean once once-marked
-        (rank q) ∙ e)
-        (subst (λ (b : List ℕ). picked b ≡ true) back c) p
-        (subst (λ (b : List ℕ). List·Memᴰ p (predecessors true rings b)) back f)
-        (omega (arith, fits-in, once-marked .same-length)))
-
-source-stored : (s : Source) (depth : ℕ) (now : List ℕ) (r : ℕ) → 3 ≤ s .mover → getD now (s .start + r) 0 ≡ depth → isSource s depth now r ≡ true
-unfolding isSource
-source-stored s depth now r h e = rw (le-ltb (s .mover) 3 h, isSource) (eq-eqb (getD now (s .start + r) 0) depth e)
-
-source-two : (s : Source) (depth : ℕ) (now : List ℕ) (r : ℕ) → s .mover < 3 → depth ≡ 0 → isSource s depth now r ≡ true
-unfolding isSource
-source-two s depth now r h e = rw (lt-ltb (s .mover) 3 h, isSource) (eq-eqb depth 0 e)
+use Rattle.levels.proofs.LevelMarks.{all-marked, same-found, lower-found, source-stored, source-two}
 
 module _ (rings k m o : ℕ) (pair : Pair rings k m o) (before : List ℕ) (valid : LowerValid rings k m o before) (maps : ℕ) (group : Group maps)
     (mirrored : LowerSymmetric maps rings k m o before) (picked : List ℕ → Bool) (picks : Picks rings maps picked)

@@ -72,9 +72,6 @@ module _ (rings k m o : ℕ) (pair : Pair rings k m o) (before : List ℕ) (vali
           → (entryAt rings k now p ≡ level) ⊎ ((q : List ℕ) × Of p q × (entryAt rings k now q ≡ voidEntry))
 
     module _ (n : ℕ) (h : n < size (8 * rings) x y) (now : List ℕ) (w : Judging n now) where
-      b : List ℕ
-      b = unrank (8 * rings) x y n
-
       in-b : InTable rings x y (unrank (8 * rings) x y n)
       in-b = unrank-in rings x y n h
 
@@ -126,9 +123,6 @@ module _ (rings k m o : ℕ) (pair : Pair rings k m o) (before : List ℕ) (vali
 
         -- missed: open again
         module _ (miss : hit (next rings) (view rings k now) level (unrank (8 * rings) x y n) ≡ false) where
-          reset : List ℕ
-          reset = set now (place rings k (unrank (8 * rings) x y n)) drawEntry
-
           reset-here : entryAt rings k (set now (place rings k (unrank (8 * rings) x y n)) drawEntry) (unrank (8 * rings) x y n) ≡ drawEntry
           reset-here =
               written-here rings k now (unrank (8 * rings) x y n) drawEntry

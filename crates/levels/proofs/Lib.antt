@@ -4,4 +4,5 @@ pub mod Sources
 pub mod Views
 pub mod Written
 pub mod Judging
+pub mod LevelMarks
 pub mod ClassLevels
