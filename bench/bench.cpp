@@ -1,14 +1,16 @@
 // Runs the library and the plain solver on the same tablebases and positions, compares every result, and prints what each
-// took. With the argument `small` it fills only small tablebases.
+// took. With the argument `small` it fills only small tablebases, with `large` only the large one.
 #include "measure.hpp"
 
 #include <cstdio>
-#include <cstring>
+#include <string>
 
 int main(int argc, char **argv) {
-    bool small = argc == 2 && std::strcmp(argv[1], "small") == 0;
-    if (argc > 1 && !small) bench::fail("the only argument is `small`");
+    std::string what = argc > 1 ? argv[1] : "";
+    bool small = what == "small", large = what == "large";
+    if (argc > 2 || (argc == 2 && !small && !large)) bench::fail("the only arguments are `small` and `large`");
     std::setvbuf(stdout, nullptr, _IOLBF, 0);
+    if (large) return bench::compare_large() != 0;
     size_t differ = bench::compare_fills(small);
     differ += bench::compare_pairs(small);
     differ += bench::compare_calls();

@@ -38,17 +38,6 @@ int Board::moves(Position at, uint16_t *list) const {
     return length;
 }
 
-uint64_t Board::rank(Position at) const {
-    uint64_t sum = 0;
-    int index = 0;
-    for (uint32_t rest = at.mover | at.opponent; rest;) {
-        int p = pop(rest), side = at.opponent >> p & 1;
-        index += side ? 1 : counting::COLUMN;
-        sum += counting::row(side, p)[index];
-    }
-    return sum;
-}
-
 Position Board::unrank(int mover, int opponent, uint64_t rank) const {
     Position at{0, 0};
     int index = mover * counting::COLUMN + opponent;

@@ -67,6 +67,18 @@ inline constexpr Table TABLE = make_table();
 // What a stone of the mover (0) or of the opponent (1) at a point counts, by the index of the stones up to it.
 inline const uint64_t *row(int side, int point) { return &TABLE[(side * POINTS_MAX + point) * ROW]; }
 
+// What all stones of a board count that stands from a point on, by the index of the stones below that point. Without branches,
+// as the order of the sides is not foreseen.
+constexpr uint64_t terms(Position at, size_t point, size_t index) {
+    uint64_t sum = 0;
+    for (uint32_t rest = at.mover | at.opponent; rest;) {
+        size_t p = pop(rest), side = at.opponent >> p & 1;
+        index += COLUMN - (COLUMN - 1) * side;
+        sum += TABLE[side * (POINTS_MAX * ROW) + (point + p) * ROW + index];
+    }
+    return sum;
+}
+
 } // namespace counting
 
 // The position of rank 0 of given counts.
@@ -119,23 +131,11 @@ class Board {
         return (set & some) == some || (set & others) == others;
     }
 
-    // All points where it does.
-    uint32_t closing(uint32_t set) const {
-        uint32_t before = turned(set, 1), after = turned(set, 7), odd = set & cross_places_;
-        uint32_t ring = (EVEN_PLACES & ((before & turned(set, 2)) | (after & turned(set, 6)))) | (ODD_PLACES & before & after);
-        return ring | (odd >> 8 & odd >> 16) | (odd << 8 & odd >> 8) | (odd << 8 & odd << 16);
-    }
-
-    bool blocked(Position at, int stones) const {
-        uint32_t free = vacant(at);
-        return !(stones == STONES_MIN ? free : free & neighbours_of(at.mover));
-    }
-
     // Lists the moves by rising number and returns how many.
     int moves(Position at, uint16_t *list) const;
 
     uint64_t size(int mover, int opponent) const { return counting::boards(points_, mover, opponent); }
-    uint64_t rank(Position at) const;
+    uint64_t rank(Position at) const { return counting::terms(at, 0, 0); }
     Position unrank(int mover, int opponent, uint64_t rank) const;
 
     bool has_table(int mover, int opponent, int k) const;

@@ -37,9 +37,10 @@ class Memory {
     void *memory_;
 };
 
-// The three tables. Each takes whether only the small tablebases are to be filled, and returns how many results differ.
+// The tables. Each returns how many results differ; `small`: whether only the small tablebases are to be filled.
 size_t compare_fills(bool small);
 size_t compare_pairs(bool small);
 size_t compare_calls();
+size_t compare_large();
 
 } // namespace bench

@@ -121,7 +121,7 @@ size_t compare_pairs(bool small) {
     if (small)
         differ += Tablebases(1, 9).compare() + Tablebases(2, 3).compare();
     else
-        for (auto [rings, k] : {std::pair{2, 9}, {3, 4}}) differ += Tablebases(rings, k).compare();
+        for (auto [rings, k] : {std::pair{2, 9}, {3, 5}}) differ += Tablebases(rings, k).compare();
     return differ;
 }
 

@@ -22,16 +22,16 @@ inline uint32_t equal_32(const uint16_t *entries, uint16_t entry) {
     return equal_16(entries) | equal_16(entries + 16) << 16;
 }
 
-// Calls `use` with the index of every entry that is equal to the given one. `use` may write entries, but not make a later
-// one equal.
-template <class Use> void for_equal(const uint16_t *entries, size_t length, uint16_t entry, const Use &use) {
+// Calls `use` with the index of every entry that is equal to the given one, or of every other one. `use` may write entries,
+// but not make a later one such.
+template <bool EQUAL = true, class Use> void for_equal(const uint16_t *entries, size_t length, uint16_t entry, const Use &use) {
     size_t i = 0;
     for (; i + SCANNED <= length; i += SCANNED) {
         __builtin_prefetch(entries + std::min(i + AHEAD, length));
-        for (uint32_t found = equal_32(entries + i, entry); found;) use(i + pop(found));
+        for (uint32_t found = equal_32(entries + i, entry) ^ (EQUAL ? 0 : ~0u); found;) use(i + pop(found));
     }
     for (; i < length; i++)
-        if (entries[i] == entry) use(i);
+        if ((entries[i] == entry) == EQUAL) use(i);
 }
 
 // The least entry that is not below `bound`, or 65535; the search ends where `bound` itself is found.

@@ -1,11 +1,13 @@
 #include "solver.hpp"
 
 #include "board.hpp"
+#include "images.hpp"
 #include "ranks.hpp"
 #include "scan.hpp"
 #include "walk.hpp"
 
 #include <algorithm>
+#include <cstring>
 
 namespace plain {
 namespace {
@@ -14,11 +16,13 @@ constexpr uint16_t OPEN = 65535; // no depth is known; a draw, once the pair is 
 constexpr uint16_t MARK = 65534; // open, and to be tested on this level
 
 // Fills a pair of tables level by level. A position has depth n + 1 only if some successor has depth n. So the open positions
-// before those of depth n are marked, and each marked one is tested by its successors.
+// before those of depth n are marked, and each marked one is tested by its successors. By classes, moves are taken back from
+// the least position of a class only, and what is found is written at all images.
 class Filling {
   public:
-    Filling(const Board &board, int k, uint16_t *entries) : board_(board), k_(k), entries_(entries) {}
+    Filling(const Board &board, int k, uint16_t *entries) : board_(board), images_(board), k_(k), entries_(entries) {}
 
+    // Over lower tables of true entries.
     void pair(int mover, int opponent) {
         Side sides[2] = {side(mover, opponent), side(opponent, mover)};
         int tables = mover == opponent ? 1 : 2;
@@ -32,6 +36,12 @@ class Filling {
             bool sources[2] = {reached[tables - 1], reached[0]};
             for (int i = 0; i < tables; i++) reached[i] = fill_level(sides[i], sources[i]);
         }
+    }
+
+    // Over lower tables of any entries.
+    void given_pair(int mover, int opponent) {
+        classes_ = is_even(table(opponent - 1, mover)) && (mover == opponent || is_even(table(mover - 1, opponent)));
+        pair(mover, opponent);
     }
 
   private:
@@ -58,69 +68,116 @@ class Filling {
         return {table(mover, opponent), table(opponent, mover), lower, lower_depth};
     }
 
-    // Depth 0: the mover is blocked. Returns whether there is such a position.
-    bool fill_level_0(const Table &table) {
+    // Whether images have the same entry throughout a table; one that is not stored has none. A turn, a mirror and the rings
+    // reversed make all images. If no decided position has one of another entry, no draw has.
+    bool is_even(const Table &table) const {
+        bool even = true;
+        for_entries<false>(table, OPEN, [&](Position at, size_t rank) {
+            if (!even) return;
+            ImageRanks images(images_, at);
+            for (uint64_t image : {images.in_order(1), images.in_order(4), images.reversed(0)})
+                even &= table.entries[image] == table.entries[rank];
+        });
+        return even;
+    }
+
+    // Depth 0: the opponent stands wherever the mover's stones could go. Returns whether there is such a position.
+    bool fill_level_0(const Table &table) const {
         bool reached = false;
-        for_all(table.mover, table.opponent, [&](Position at, size_t rank) {
-            bool blocked = board_.blocked(at, table.mover);
-            table.entries[rank] = blocked ? 0 : OPEN;
-            reached |= blocked;
+        std::memset(table.entries, OPEN & 255, table.size * sizeof(OPEN));
+        uint32_t all = below(board_.points());
+        for_subsets(all, table.mover, 0, [&](uint32_t mover) {
+            uint32_t ways = (table.mover == STONES_MIN ? all : board_.neighbours_of(mover)) & ~mover;
+            int others = table.opponent - std::popcount(ways);
+            for_subsets(all & ~mover & ~ways, others, ways, [&](uint32_t opponent) {
+                table.entries[board_.rank({mover, opponent})] = 0;
+                reached = true;
+            });
         });
         return reached;
+    }
+
+    // Calls `use` with the union of `chosen` and each subset of so many members.
+    template <class Use> static void for_subsets(uint32_t set, int members, uint32_t chosen, const Use &use) {
+        if (members == 0) return use(chosen);
+        while (members > 0 && set) {
+            uint32_t one = 1u << pop(set);
+            for_subsets(set, members - 1, chosen | one, use);
+        }
     }
 
     // Returns whether some position of the table has the level as its depth. `sources`: whether the table of the successors
     // without removal has the depth before. A table that does not have it is not scanned.
     bool fill_level(Side &side, bool sources) {
         side_ = side;
-        uint16_t depth = level_ - 1;
-        bool reached = false, lower_sources = side.lower_depth == depth;
-        if (sources) for_entries(side.moved, depth, [&](Position at, size_t) { unmove(at); });
+        int depth = level_ - 1;
+        bool lower_sources = side.lower_depth == depth;
+        if (sources) for_sources(side.moved, depth, [&](Position at) { unmove(at); });
         if (lower_sources) side.lower_depth = uncapture_all(side.lower, depth);
-        if (sources || lower_sources)
-            for_entries(side.table, MARK, [&](Position at, size_t rank) {
-                bool found = level_ % 2 == 1 ? won(at) : lost(at);
-                side_.table.entries[rank] = found ? level_ : OPEN;
-                reached |= found;
-            });
+        return (sources || lower_sources) && test_all();
+    }
+
+    // Each marked position gets the level, or is open again. Returns whether one got it.
+    bool test_all() const {
+        bool reached = false;
+        for_entries(side_.table, MARK, [&](Position at, size_t rank) {
+            if (level_ % 2 == 1 ? won(at) : lost(at)) {
+                write(at, rank);
+                reached = true;
+            } else
+                side_.table.entries[rank] = OPEN;
+        });
         return reached;
+    }
+
+    // Writes the level. Marked images are no marks any more.
+    void write(Position at, size_t rank) const {
+        if (classes_)
+            ImageRanks(images_, at).for_all([&](uint64_t image) { side_.table.entries[image] = level_; });
+        else
+            side_.table.entries[rank] = level_;
     }
 
     // Marks what is before the positions of a depth in a lower table; returns the next depth there. A side with two stones has
     // lost, at depth 0.
-    int uncapture_all(const Table &lower, int depth) {
+    int uncapture_all(const Table &lower, int depth) const {
         if (lower.entries) {
-            for_entries(lower, depth, [&](Position at, size_t) { uncapture(at); });
+            for_sources(lower, depth, [&](Position at) { uncapture(at); });
             return least_from(lower.entries, lower.size, depth + 1);
         }
-        for_all(lower.mover, lower.opponent, [&](Position at, size_t) { uncapture(at); });
+        Walk walk(board_, lower.mover, lower.opponent);
+        for (size_t rank = 0, size = board_.size(lower.mover, lower.opponent); rank < size; rank++)
+            if (Position at = walk.to(rank); is_source(at)) uncapture(at);
         return OPEN;
     }
 
-    // Calls `use` with every position of the given counts, and its rank.
-    template <class Use> void for_all(int mover, int opponent, const Use &use) {
-        Walk walk(board_, mover, opponent);
-        for (size_t rank = 0, size = board_.size(mover, opponent); rank < size; rank++) use(walk.to(rank), rank);
+    // Calls `use` with every position from which moves are taken back: of the entry, and by classes the least of its class.
+    template <class Use> void for_sources(const Table &table, uint16_t entry, const Use &use) const {
+        for_entries(table, entry, [&](Position at, size_t) {
+            if (is_source(at)) use(at);
+        });
     }
 
-    // The same for those that have the given entry in a table.
-    template <class Use> void for_entries(const Table &table, uint16_t entry, const Use &use) {
+    bool is_source(Position at) const { return !classes_ || images_.least(at); }
+
+    // Calls `use` with every position that has the given entry in a table, or another one, and its rank.
+    template <bool EQUAL = true, class Use> void for_entries(const Table &table, uint16_t entry, const Use &use) const {
         Walk walk(board_, table.mover, table.opponent);
-        for_equal(table.entries, table.size, entry, [&](size_t rank) { use(walk.to(rank), rank); });
+        for_equal<EQUAL>(table.entries, table.size, entry, [&](size_t rank) { use(walk.to(rank), rank); });
     }
 
     bool flies() const { return side_.table.mover == STONES_MIN; }
 
-    void mark(uint64_t rank) {
+    void mark(uint64_t rank) const {
         uint16_t &entry = side_.table.entries[rank];
         entry = entry == OPEN ? MARK : entry; // a write that is not needed is cheaper than a branch that is not foreseen
     }
 
     // Marks the positions with a ply to `at` that takes nothing.
-    void unmove(Position at) { come_from(at, at.opponent); }
+    void unmove(Position at) const { come_from(at, at.opponent); }
 
     // Marks the positions with a ply to `at` that takes a stone.
-    void uncapture(Position at) {
+    void uncapture(Position at) const {
         uint32_t milled = board_.milled(at.opponent), free = board_.vacant(at);
         if (!milled) return;
         if (flies())
@@ -130,7 +187,7 @@ class Filling {
     }
 
     // There are fewer slides to take back than points for the stone that was taken: slides are the outer loop.
-    void uncapture_slides(Position at, uint32_t to_set) {
+    void uncapture_slides(Position at, uint32_t to_set) const {
         uint32_t free = board_.vacant(at);
         while (to_set) {
             int to = pop(to_set);
@@ -143,12 +200,12 @@ class Filling {
     }
 
     // Marks the positions before a stone of `to_set` came to where it stands.
-    void come_from(Position at, uint32_t to_set) {
+    void come_from(Position at, uint32_t to_set) const {
         uint32_t free = board_.vacant(at);
         MovedRanks<0> ranks({at.opponent, at.mover});
         if (flies()) {
-            FlownRanks<0> flown(ranks, free);
-            while (to_set) flown.any(pop(to_set), free, [&](uint64_t rank) { return mark(rank), false; });
+            FlownRanks flown(ranks, free);
+            while (to_set) flown.for_all(pop(to_set), [&](uint64_t rank) { mark(rank); });
         } else
             while (to_set) {
                 int to = pop(to_set);
@@ -167,34 +224,16 @@ class Filling {
     // Calls `settles` with the entries of the successors until it is true; returns whether it was.
     template <class Settles> bool any_successor(Position at, const Settles &settles) const {
         MovedRanks<1> ranks({at.opponent, at.mover});
-        return flies() ? any_flight(at, ranks, settles) : any_slide(at, ranks, settles);
-    }
-
-    template <class Settles> bool any_slide(Position at, const MovedRanks<1> &ranks, const Settles &settles) const {
         uint32_t free = board_.vacant(at);
         for (uint32_t from_set = at.mover; from_set;) {
             int from = pop(from_set);
             uint32_t others = at.mover & ~(1u << from);
-            for (uint32_t to_set = free & board_.neighbours(from); to_set;) {
+            for (uint32_t to_set = flies() ? free : free & board_.neighbours(from); to_set;) {
                 int to = pop(to_set);
                 if (board_.closes(others, to) ? any_removal(at.opponent, others | 1u << to, settles)
                                               : settles(side_.moved.entries[ranks.rank(from, to)]))
                     return true;
             }
-        }
-        return false;
-    }
-
-    template <class Settles> bool any_flight(Position at, const MovedRanks<1> &ranks, const Settles &settles) const {
-        uint32_t free = board_.vacant(at);
-        FlownRanks<1> flown(ranks, free);
-        for (uint32_t from_set = at.mover; from_set;) {
-            int from = pop(from_set);
-            uint32_t others = at.mover & ~(1u << from), closing = free & board_.closing(others);
-            if (flown.any(from, free & ~closing, [&](uint64_t rank) { return settles(side_.moved.entries[rank]); }))
-                return true;
-            while (closing)
-                if (any_removal(at.opponent, others | 1u << pop(closing), settles)) return true;
         }
         return false;
     }
@@ -207,8 +246,10 @@ class Filling {
     }
 
     const Board &board_;
+    Images images_;
     int k_;
     uint16_t *entries_;
+    bool classes_ = true;
     Side side_{}; // what is filled
     int level_ = 0;
 };
@@ -217,7 +258,7 @@ class Filling {
 
 void fill_pair(int rings, int mover, int opponent, int k, uint16_t *entries) {
     Board board(rings);
-    Filling(board, k, entries).pair(mover, opponent);
+    Filling(board, k, entries).given_pair(mover, opponent);
 }
 
 void fill(int rings, int k, uint16_t *entries) {
