@@ -40,7 +40,7 @@ class Filling {
 
     // Over lower tables of any entries.
     void given_pair(int mover, int opponent) {
-        classes_ = is_even(table(opponent - 1, mover)) && (mover == opponent || is_even(table(mover - 1, opponent)));
+        classes_ = is_symmetric(table(opponent - 1, mover)) && (mover == opponent || is_symmetric(table(mover - 1, opponent)));
         pair(mover, opponent);
     }
 
@@ -70,15 +70,15 @@ class Filling {
 
     // Whether images have the same entry throughout a table; one that is not stored has none. A turn, a mirror and the rings
     // reversed make all images. If no decided position has one of another entry, no draw has.
-    bool is_even(const Table &table) const {
-        bool even = true;
+    bool is_symmetric(const Table &table) const {
+        bool symmetric = true;
         for_entries<false>(table, OPEN, [&](Position at, size_t rank) {
-            if (!even) return;
+            if (!symmetric) return;
             ImageRanks images(images_, at);
             for (uint64_t image : {images.in_order(1), images.in_order(4), images.reversed(0)})
-                even &= table.entries[image] == table.entries[rank];
+                symmetric &= table.entries[image] == table.entries[rank];
         });
-        return even;
+        return symmetric;
     }
 
     // Depth 0: the opponent stands wherever the mover's stones could go. Returns whether there is such a position.
