@@ -6,7 +6,8 @@ use native.Mathlib.Omega.{arith}
 use lib.ListN.{length}
 use Rattle.lists.specs.Lists.{each}
 use Rattle.sets.specs.Sets.{bit, elements}
-use Rattle.sets.proofs.Elements.{Taken, elements-none}
+use Rattle.sets.specs.Taken.{Taken}
+use Rattle.sets.proofs.Elements.{elements-none}
 use Rattle.ranking.specs.Rank.{rank}
 use Rattle.marking.specs.Marks.{marked, places}
 use Rattle.marking.proofs.Marks.{marked-none, marked-append, marked-length}
@@ -16,7 +17,7 @@ module _ (start : ℕ) (f : ℕ → List (List ℕ)) where
   abbrev pub placesOf : ℕ → List ℕ
   placesOf s = places start (each f (elements 32 s))
 
-  places-apart : (left p rest : ℕ) → Taken 32 left p rest → placesOf left ≡ places start (f p) ++ placesOf rest
+  places-apart : (left p rest : ℕ) → Taken left p rest → placesOf left ≡ places start (f p) ++ placesOf rest
   places-apart left p rest t =
       ap (λ (l : List ℕ). places start (each f l)) (t .apart) ∙ map-append (λ b. start + rank b) (f p) (each f (elements 32 rest))
 
@@ -30,7 +31,7 @@ module _ (start : ℕ) (f : ℕ → List (List ℕ)) where
   pub marking-none : (old : List ℕ) (whole : ℕ) → whole < 2 ^ 32 → Marking old whole old whole
   marking-none old whole h = record { within = h; among = λ q b. b; same = refl; long = refl }
 
-  pub marking-more : (old : List ℕ) (whole : ℕ) (new : List ℕ) (left p rest : ℕ) (new′ : List ℕ) → Marking old whole new left → Taken 32 left p rest
+  pub marking-more : (old : List ℕ) (whole : ℕ) (new : List ℕ) (left p rest : ℕ) (new′ : List ℕ) → Marking old whole new left → Taken left p rest
       → new′ ≡ marked (places start (f p)) new → Marking old whole new′ rest
   marking-more old whole new left p rest new′ w t e = record {
     within = omega (arith, w .within, t .less);

@@ -21,7 +21,8 @@ use Rattle.board.proofs.Sides.{length-board, board-at, board-values, value-le}
 use Rattle.sizes.specs.Size.{size}
 use Rattle.ranking.specs.Rank.{rank}
 use Rattle.ranking.specs.Ends.{Ends}
-use Rattle.ranking.proofs.Digits.{bit-or, below-lowest, stones}
+use Rattle.sets.proofs.Least.{below-lowest}
+use Rattle.ranking.proofs.Digits.{bit-or, stones}
 use Rattle.ranking.proofs.Extremes.{Rises, rises-top, taken-more}
 
 digit-bit : (s q : ℕ) → digit (has s q) ≡ bit s q

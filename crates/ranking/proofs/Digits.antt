@@ -1,5 +1,4 @@
--- Digits of a union and of a difference of sets, the set without its least member, and what a point's digits say of a board's stones. Assumes
--- nothing.
+-- Digits of a union and of a difference of sets, and what a point's digits say of a board's stones. Assumes nothing.
 use mathlib.Core.Path.{_≡_, refl, sym, ap, ap₂, _∙_, subst}
 use mathlib.Core.Bool.{Bool, true, false}
 use mathlib.Core.List.{List, _∷_, List·Memᴰ, List·Memᴰ·cases-cons}
@@ -61,49 +60,6 @@ ends-are s h = record {
   after = λ q. bit-minus (2 * s) s (suc q) ∙ ap (λ (x : ℕ). x - min x (bit s (suc q))) (bit-double s q);
   within = omega arith;
 }
-
--- no member is below the least
-pub below-lowest : (s q : ℕ) → s < 2 ^ 32 → (s ≡ 0 → ⊥) → q < lowest s → bit s q ≡ 0
-below-lowest s q fits some h = ⊎-elim (λ z. z) (λ o. absurd (no o)) (bit-cases s q)
-  where
-    apart : elements 32 s ≡ lowest s ∷ elements 32 (without s (lowest s))
-    apart = elements-lowest s fits some
-
-    rising : Rising (lowest s ∷ elements 32 (without s (lowest s)))
-    rising = subst (λ (l : List ℕ). Rising l) apart (elements-rising 32 s)
-
-    no : bit s q ≡ 1 → ⊥
-    no o =
-        let m = is-element 32 s q (omega (arith, lowest-low s fits some)) o in
-        ⊎-elim (λ e. omega arith) (λ k. omega (arith, above-member (lowest s) (elements 32 (without s (lowest s))) (rising .0) q k))
-        (List·Memᴰ·cases-cons (subst (λ (l : List ℕ). List·Memᴰ q l) apart m))
-
-pub lowest-least : (s q : ℕ) → s < 2 ^ 32 → (s ≡ 0 → ⊥) → bit s q ≡ 1 → lowest s ≤ q
-lowest-least s q fits some h = go (ltb q (lowest s)) refl
-  where
-    go : (b : Bool) → ltb q (lowest s) ≡ b → lowest s ≤ q
-    go true e = absurd (omega (arith, below-lowest s q fits some (ltb-true q (lowest s) e), h))
-    go false e = ltb-false q (lowest s) e
-
--- one less than a set turns the digits up to the least member: what both have is the rest
-and-pred : (k s : ℕ) → bit s k ≡ 1 → ((q : ℕ) → q < k → bit s q ≡ 0) → bitAnd s (s - 1) ≡ s - 2 ^ k
-and-pred zero s m z =
-    let o : s % 2 ≡ 1 = omega (arith, bit-zero s) in
-    let h : (s - 1) / 2 ≡ s / 2 = omega arith in
-    let d : (s - 1) % 2 ≡ 0 = omega arith in
-    and-step s (s - 1) ∙ rw (h, d, o, and-self (s / 2)) (omega arith)
-and-pred (suc k) s m z =
-    let e : s % 2 ≡ 0 = omega (arith, bit-zero s, z 0 (omega arith)) in
-    let n : 2 ^ suc k ≤ s = bit-le s (suc k) m in
-    let h : (s - 1) / 2 ≡ s / 2 - 1 = omega (arith, pow-suc 2 k, pow-pos k) in
-    let d : (s - 1) % 2 ≡ 1 = omega (arith, pow-suc 2 k, pow-pos k) in
-    let r = and-pred k (s / 2) (sym (bit-suc s k) ∙ m) (λ q l. sym (bit-suc s q) ∙ z (suc q) (omega arith)) in
-    and-step s (s - 1) ∙ rw (h, d, e, r, pow-suc 2 k) (omega arith)
-
-pub lowest-apart : (s : ℕ) → s < 2 ^ 32 → (s ≡ 0 → ⊥) → bitAnd s (s - 1) ≡ without s (lowest s)
-lowest-apart s fits some =
-    and-pred (lowest s) s (lowest-member s fits some) (λ q l. below-lowest s q fits some l)
-    ∙ sym (without-member s (lowest s) (lowest-member s fits some))
 
 -- a digit of the union by those of the two sets, where they are not both 1
 neither : (x y : ℕ) → max x y < 2 → (max x y ≡ 1 → ⊥) → (x ≡ 0) × (y ≡ 0)

@@ -10,7 +10,8 @@ use lib.ListN.{length, getD}
 use lib.Pow.{pow-mono}
 use Rattle.lists.specs.Lists.{range, keep}
 use Rattle.sets.specs.Sets.{has, elements}
-use Rattle.sets.proofs.Elements.{Taken, elements-are, elements-more, elements-none}
+use Rattle.sets.specs.Taken.{Taken}
+use Rattle.sets.proofs.Elements.{elements-are, elements-more, elements-none}
 use Rattle.board.specs.declared.position.Position.{Position}
 use Rattle.board.specs.Board.{Values, digit, boardOf, OnBoard}
 use Rattle.board.proofs.Sides.{digit-lt, length-board, board-values}
@@ -58,7 +59,7 @@ module _ (points : ℕ) (position : Position) (small : points ≤ 24) (w : OnBoa
         passed = subst (λ (k : List ℕ). Passed board stone k 0 0 0) (sym e) (passed-none board stone);
       }
 
-  module _ (s o r left p rest : ℕ) (state : Passing points position s o r left) (t : Taken 32 left p rest) where
+  module _ (s o r left p rest : ℕ) (state : Passing points position s o r left) (t : Taken left p rest) where
     next : Next board stone p (elements 32 rest) (s - o) o r
     next = passed-coming board stone values vacant (p ∷ elements 32 rest) (subst (λ (l : List ℕ). Passed board stone l (s - o) o r) (t .apart) (state .passed))
 

@@ -12,7 +12,8 @@ use Rattle.sets.proofs.Laws.{bit-empty, bit-with-same, bit-with-other, with-lt}
 use Rattle.sets.proofs.Elements.{lowest-member}
 use Rattle.board.specs.declared.position.Position.{Position}
 use Rattle.board.specs.Board.{boardOf, OnBoard}
-use Rattle.ranking.proofs.Digits.{below-lowest, stones}
+use Rattle.sets.proofs.Least.{below-lowest}
+use Rattle.ranking.proofs.Digits.{stones}
 use Rattle.ranking.proofs.Extremes.{Rises}
 use Rattle.ranking.proofs.Descents.{Descent, value-bits, stones-at}
 

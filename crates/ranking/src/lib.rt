@@ -1,7 +1,6 @@
 // The rank of a position, and the position of a rank.
 ghost use mathlib.Core.Path.{_≡_};
 ghost use Prim.Native.Nat.{suc, _+_, _-_, _≤_, _<_};
-ghost use Rattle.sets.specs.Sets.{without, lowest};
 ghost use Rattle.board.specs.Board.{digit, boardOf, positionOf, OnBoard};
 ghost use Rattle.sizes.specs.Size.{size};
 ghost use Rattle.sizes.specs.Binomial.{BinomialTable};
@@ -60,14 +59,6 @@ fn contribution(binomials: &[u32; 625], theirs: bool, p: usize, stones: usize, o
         * sizes::binomial(binomials, choose(theirs, p + 1 - o, stones), stones - o)
 }
 
-// A set without its least member.
-fn without_lowest(s: u32) -> u32
-    requires { ⌜ (s ≡ 0 → ⊥) ⌝ }
-    ensures { λ r. ⌜ r ≡ without s (lowest s) ⌝ }
-{
-    s & (s - 1)
-}
-
 // The rank of a position's board. The stones come from the lowest up, so the counts so far are those of the board's part; vacant points add nothing.
 pub fn rank(binomials: &[u32; 625], points: usize, position: Position) -> usize
     requires { ⌜ BinomialTable (now binomials) ⌝ }
@@ -79,12 +70,12 @@ pub fn rank(binomials: &[u32; 625], points: usize, position: Position) -> usize
     let mut r: usize = 0;
     let mut left = position.mover | position.opponent;
     while left != 0 {
-        let p = sets::lowest(left);
-        let theirs = sets::has(position.opponent, p);
+        let next = sets::take_lowest(left);
+        let theirs = sets::has(position.opponent, next.lowest);
         stones += 1;
         o += theirs as usize;
-        r += contribution(binomials, theirs, p, stones, o);
-        left = without_lowest(left);
+        r += contribution(binomials, theirs, next.lowest, stones, o);
+        left = next.rest;
     }
     r
 }

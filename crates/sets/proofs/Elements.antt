@@ -259,31 +259,3 @@ pub elements-none : (n : ℕ) → elements n 0 ≡ []
 elements-none n =
     rising-same (elements n 0) [] (elements-rising n 0) tt (λ p m. absurd (omega (arith, elements-is n 0 p m .1, bit-empty p)))
     (λ p m. absurd (List·Memᴰ·not-nil m))
-
--- who is left was there before
-without-among : (s p q : ℕ) → bit (without s p) q ≡ 1 → bit s q ≡ 1
-without-among s p q e = go (eqb q p) refl
-  where
-    go : (b : Bool) → eqb q p ≡ b → bit s q ≡ 1
-    go true i = absurd (omega (arith, sym e ∙ ap (λ (x : ℕ). bit (without s p) x) (eqb-true q p i), bit-without-same s p))
-    go false i = sym (bit-without-other s p q (eqb-false q p i)) ∙ e
-
--- a loop over a set's members takes the least one and goes on with the rest
-pub record Taken (n left p rest : ℕ) : Type 0 where
-  pub low : p < n
-  pub member : bit left p ≡ 1
-  pub apart : elements 32 left ≡ p ∷ elements 32 rest
-  pub less : rest < left
-  pub among : (q : ℕ) → bit rest q ≡ 1 → bit left q ≡ 1
-
-pub taken : (n left p rest : ℕ) → n ≤ 32 → left < 2 ^ n → (left ≡ 0 → ⊥) → p ≡ lowest left → rest ≡ without left p → Taken n left p rest
-taken n left p rest h l some e f =
-    let fits = lt-of-lt-of-le l (pow-mono {i = n} {j = 32} h) in
-    let m : bit left p ≡ 1 = ap (λ (q : ℕ). bit left q) e ∙ lowest-member left fits some in
-    record {
-      low = bit-low n left p l m;
-      member = m;
-      apart = elements-lowest left fits some ∙ ap₂ (λ (x y : ℕ). x ∷ elements 32 y) (sym e) (sym (f ∙ ap (without left) e));
-      less = subst (λ (x : ℕ). x < left) (sym (f ∙ ap (without left) e)) (without-less left fits some);
-      among = λ q b. without-among left p q (sym (ap (λ (x : ℕ). bit x q) f) ∙ b);
-    }

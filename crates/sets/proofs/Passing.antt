@@ -10,15 +10,16 @@ use lib.Seq.{sets}
 use Rattle.lists.specs.Lists.{any, each}
 use Rattle.lists.proofs.Writing.{Writing, writing-none, writing-part, writing-all}
 use Rattle.sets.specs.Sets.{bit, elements}
-use Rattle.sets.proofs.Elements.{Taken, elements-none}
+use Rattle.sets.specs.Taken.{Taken}
+use Rattle.sets.proofs.Elements.{elements-none}
 
 -- what each member gives, one list after the other
 abbrev pub given : (ℕ → List ℕ) → ℕ → List ℕ
 given f s = each f (elements 32 s)
 
 module _ (f : ℕ → List ℕ) where
-  given-apart : (n left p rest : ℕ) → Taken n left p rest → given f left ≡ f p ++ given f rest
-  given-apart n left p rest t = ap (each f) (t .apart)
+  given-apart : (left p rest : ℕ) → Taken left p rest → given f left ≡ f p ++ given f rest
+  given-apart left p rest t = ap (each f) (t .apart)
 
   given-none : given f 0 ≡ []
   given-none = ap (each f) (elements-none 32)
@@ -32,11 +33,11 @@ module _ (f : ℕ → List ℕ) where
   pub counted-none : (whole : ℕ) → whole < 2 ^ 32 → Counted whole 0 whole
   counted-none whole h = record { within = h; among = λ q b. b; total = omega arith }
 
-  pub counted-more : (whole n left p rest k : ℕ) → Counted whole n left → Taken 32 left p rest → k ≡ length (f p) → Counted whole (n + k) rest
+  pub counted-more : (whole n left p rest k : ℕ) → Counted whole n left → Taken left p rest → k ≡ length (f p) → Counted whole (n + k) rest
   counted-more whole n left p rest k w t e = record {
     within = omega (arith, w .within, t .less);
     among = λ q b. w .among q (t .among q b);
-    total = omega (arith, w .total, e, ap length (given-apart 32 left p rest t), length-append (f p) (given f rest));
+    total = omega (arith, w .total, e, ap length (given-apart left p rest t), length-append (f p) (given f rest));
   }
 
   pub counted-all : (whole n left : ℕ) → Counted whole n left → left ≡ 0 → n ≡ length (given f whole)
@@ -52,7 +53,7 @@ module _ (f : ℕ → List ℕ) where
   written-none old start whole h = record { within = h; among = λ q b. b; writing = writing-none old start (given f whole) }
 
   pub written-more : (old : List ℕ) (start whole : ℕ) (list : List ℕ) (k left p rest : ℕ) (list′ : List ℕ) (k′ : ℕ)
-      → Written old start whole list k left → Taken 32 left p rest → k′ ≡ k + length (f p) → list′ ≡ sets list k (f p)
+      → Written old start whole list k left → Taken left p rest → k′ ≡ k + length (f p) → list′ ≡ sets list k (f p)
       → Written old start whole list′ k′ rest
   written-more old start whole list k left p rest list′ k′ w t e d = record {
     within = omega (arith, w .within, t .less);
@@ -60,7 +61,7 @@ module _ (f : ℕ → List ℕ) where
     writing =
         subst (λ (l : List ℕ). Writing old start (given f whole) l k′ (given f rest)) (sym d)
         (subst (λ (i : ℕ). Writing old start (given f whole) (sets list k (f p)) i (given f rest)) (sym e)
-        (writing-part (f p) (given f rest) (subst (λ (l : List ℕ). Writing old start (given f whole) list k l) (given-apart 32 left p rest t) (w .writing))));
+        (writing-part (f p) (given f rest) (subst (λ (l : List ℕ). Writing old start (given f whole) list k l) (given-apart left p rest t) (w .writing))));
   }
 
   pub written-all : (old : List ℕ) (start whole : ℕ) (list : List ℕ) (k left : ℕ) → Written old start whole list k left → left ≡ 0
@@ -70,10 +71,10 @@ module _ (f : ℕ → List ℕ) where
       (r .1, r .0)
 
   -- there is room for what a member gives
-  pub written-room : (old : List ℕ) (start whole : ℕ) (list : List ℕ) (k left p rest : ℕ) → Written old start whole list k left → Taken 32 left p rest
+  pub written-room : (old : List ℕ) (start whole : ℕ) (list : List ℕ) (k left p rest : ℕ) → Written old start whole list k left → Taken left p rest
       → start + length (given f whole) ≤ length old → k + length (f p) ≤ length list
   written-room old start whole list k left p rest w t h =
-      omega (arith, w .writing .place, w .writing .long, ap length (given-apart 32 left p rest t), length-append (f p) (given f rest))
+      omega (arith, w .writing .place, w .writing .long, ap length (given-apart left p rest t), length-append (f p) (given f rest))
 
 -- one number from each member
 pub each-map : (g : ℕ → ℕ) (l : List ℕ) → each (λ p. g p ∷ []) l ≡ map g l
@@ -90,14 +91,14 @@ module _ (f : ℕ → Bool) where
   pub sought-none : (whole : ℕ) → whole < 2 ^ 32 → Sought whole whole
   sought-none whole h = record { within = h; among = λ q b. b; same = refl }
 
-  pub sought-more : (whole left p rest : ℕ) → Sought whole left → Taken 32 left p rest → f p ≡ false → Sought whole rest
+  pub sought-more : (whole left p rest : ℕ) → Sought whole left → Taken left p rest → f p ≡ false → Sought whole rest
   sought-more whole left p rest w t e = record {
     within = omega (arith, w .within, t .less);
     among = λ q b. w .among q (t .among q b);
     same = sym (ap (any f) (t .apart) ∙ rw (e, any)) ∙ w .same;
   }
 
-  pub sought-found : (whole left p rest : ℕ) → Sought whole left → Taken 32 left p rest → f p ≡ true → true ≡ any f (elements 32 whole)
+  pub sought-found : (whole left p rest : ℕ) → Sought whole left → Taken left p rest → f p ≡ true → true ≡ any f (elements 32 whole)
   sought-found whole left p rest w t e = sym (ap (any f) (t .apart) ∙ rw (e, any)) ∙ w .same
 
   pub sought-all : (whole left : ℕ) → Sought whole left → left ≡ 0 → false ≡ any f (elements 32 whole)

@@ -4,6 +4,7 @@ ghost use mathlib.Core.List.{_∷_, []};
 ghost use Prim.Native.Nat.{_<_};
 ghost use lib.Dec.{eqb};
 ghost use Rattle.sets.specs.Sets.{has, with, without, members, shared, lowest, setFrom};
+ghost use Rattle.sets.specs.Taken.{Taken};
 
 // Whether a point is a member.
 pub fn has(s: u32, p: usize) -> bool
@@ -57,4 +58,29 @@ pub fn lowest(s: u32) -> usize
     ensures { λ r. ⌜ (r ≡ lowest s) × (r < 32) ⌝ }
 {
     u32::trailing_zeros(s) as usize
+}
+
+// A set without its least member.
+fn without_lowest(s: u32) -> u32
+    requires { ⌜ (s ≡ 0 → ⊥) ⌝ }
+    ensures { λ r. ⌜ r ≡ without s (lowest s) ⌝ }
+{
+    s & (s - 1)
+}
+
+// A set's least member, and the rest.
+pub struct Split {
+    pub lowest: usize,
+    pub rest: u32,
+}
+
+// The least member taken from a set that has one: how every loop over a set goes on.
+pub fn take_lowest(s: u32) -> Split
+    requires { ⌜ (s ≡ 0 → ⊥) ⌝ }
+    ensures { λ r. ⌜ Taken s (r .lowest) (r .rest) ⌝ }
+{
+    Split {
+        lowest: lowest(s),
+        rest: without_lowest(s),
+    }
 }

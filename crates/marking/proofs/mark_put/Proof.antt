@@ -11,7 +11,6 @@ use Rattle.board.proofs.Sides.{length-board, board-values}
 use Rattle.sizes.specs.Size.{size}
 use Rattle.ranking.specs.Rank.{rank}
 use Rattle.ranking.specs.Inserting.{Inserting, Vacant}
-use Rattle.ranking.proofs.Digits.{lowest-least}
 use Rattle.ranking.proofs.Insertions.{put-low}
 use Rattle.marking.specs.Marks.{markAt, marked, places}
 use Rattle.marking.proofs.Marks.{mark-is, marked-one}

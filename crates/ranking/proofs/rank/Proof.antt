@@ -1,10 +1,7 @@
 -- `ranking::rank` meets its contract. The invariant: the counts and the rank of the points passed, and the stones that are left. Assumes nothing.
-use mathlib.Core.Path.{_≡_, refl, sym, ap, _∙_}
 use Prim.Native.Nat.{ℕ, suc, _+_, _-_}
 use native.Mathlib.Omega.{arith}
 use borrow.Author.Needs.{needs}
-use Rattle.sets.specs.Sets.{without}
-use Rattle.sets.proofs.Elements.{Taken, taken}
 use Rattle.board.specs.Board.{digit}
 use Rattle.board.proofs.Sides.{digit-lt}
 use Rattle.ranking.proofs.Steps.{below-small}
@@ -18,40 +15,32 @@ Inv-loop binomials points position stones₀ o₀ r₀ left₀ stones o r left =
 abbrev μ-loop : tie.MeasureT-loop
 μ-loop binomials points position stones₀ o₀ r₀ left₀ stones o r left = left
 
--- the stone taken, and the rest
-step : (c : tie.After-lowest Inv-loop μ-loop) (rest : ℕ) → rest ≡ without (c .before .before .loop .left) (c .lowest .result)
-    → Taken 32 (c .before .before .loop .left) (c .lowest .result) rest
-step c rest e =
-    let x = c .before .before in
-    taken 32 (x .loop .left) (c .lowest .result) rest (omega arith) (x .loop .inv .within) (c .before .loop-test .taken) (c .lowest .ensures .0) e
-
-here : (c : tie.After-lowest Inv-loop μ-loop)
-    → Here (c .before .before .before .before .args .points) (c .lowest .result) (c .before .before .loop .stones) (c .before .before .loop .o)
+here : (c : tie.After-take-lowest Inv-loop μ-loop)
+    → Here (c .before .before .before .before .args .points) (c .take-lowest .result .lowest) (c .before .before .loop .stones) (c .before .before .loop .o)
     (c .before .before .loop .r)
 here c =
     let x = c .before .before in
     let s = x .before .before in
-    let rest : ℕ = without (x .loop .left) (c .lowest .result) in
     passing-here (s .args .points) (s .args .position) (s .pre .1 .0) (s .pre .1 .1) (x .loop .stones) (x .loop .o) (x .loop .r) (x .loop .left)
-    (c .lowest .result) rest (x .loop .inv) (step c rest refl)
+    (c .take-lowest .result .lowest) (c .take-lowest .result .rest) (x .loop .inv) (c .take-lowest .ensures)
 
 loop-holds : tie.Need-loop-holds Inv-loop μ-loop
 loop-holds c = let s = c .before in passing-none (s .args .points) (s .args .position) (s .pre .1 .0) (s .pre .1 .1)
 
-lowest-requires : tie.Need-lowest-requires Inv-loop μ-loop
-lowest-requires c κs = c .loop-test .taken
+take-lowest-requires : tie.Need-take-lowest-requires Inv-loop μ-loop
+take-lowest-requires c κs = c .loop-test .taken
 
 has-requires : tie.Need-has-requires Inv-loop μ-loop
-has-requires c κs = c .lowest .ensures .1
+has-requires c κs = c .take-lowest .ensures .low
 
 add-stones : tie.Need-add-stones Inv-loop μ-loop
-add-stones c = omega (arith, here (c .before) .few, c .before .lowest .ensures .1)
+add-stones c = omega (arith, here (c .before) .few, c .before .take-lowest .ensures .low)
 
 cast-o : tie.Need-cast-o Inv-loop μ-loop
 cast-o c = search needs
 
 add-o : tie.Need-add-o Inv-loop μ-loop
-add-o c = omega (arith, c .before .before .before .loop .inv .some, here (c .before) .few, c .before .lowest .ensures .1, digit-lt (c .has .result))
+add-o c = omega (arith, c .before .before .before .loop .inv .some, here (c .before) .few, c .before .take-lowest .ensures .low, digit-lt (c .has .result))
 
 contribution-requires : tie.Need-contribution-requires Inv-loop μ-loop
 contribution-requires c κs =
@@ -71,31 +60,21 @@ add-r c =
       arith,
       h .rank-low,
       c .contribution .ensures,
-      below-small (suc d) (k .before .lowest .result) (x .loop .stones + 1 - (x .loop .o + d)) (x .loop .o + d) (omega (arith, h .low, s .pre .1 .0)),
+      below-small (suc d) (k .before .take-lowest .result .lowest) (x .loop .stones + 1 - (x .loop .o + d)) (x .loop .o + d) (omega (arith, h .low, s .pre .1 .0)),
     )
 
-without-lowest-requires : tie.Need-without-lowest-requires Inv-loop μ-loop
-without-lowest-requires c κs = c .before .before .before .loop-test .taken
-
--- what is left is the set without the stone
-left-is : (c : tie.After-without-lowest Inv-loop μ-loop)
-    → c .without-lowest .result ≡ without (c .before .before .before .before .before .loop .left) (c .before .before .before .lowest .result)
-left-is c =
-    let t = c .before .before .before in
-    c .without-lowest .ensures ∙ ap (without (t .before .before .loop .left)) (sym (t .lowest .ensures .0))
-
 loop-less : tie.Need-loop-less Inv-loop μ-loop
-loop-less c = step (c .before .before .before) (c .without-lowest .result) (left-is c) .less
+loop-less c = c .before .before .take-lowest .ensures .less
 
 loop-again : tie.Need-loop-again Inv-loop μ-loop
 loop-again c =
-    let k = c .before .before in
+    let k = c .before in
     let t = k .before in
     let x = t .before .before in
     let s = x .before .before in
     passing-more (s .args .points) (s .args .position) (s .pre .1 .0) (s .pre .1 .1) (x .loop .stones) (x .loop .o) (x .loop .r) (x .loop .left)
-    (t .lowest .result) (c .without-lowest .result) (x .loop .inv) (step t (c .without-lowest .result) (left-is c)) (k .has .result)
-    (c .before .contribution .result) (k .has .ensures) (c .before .contribution .ensures)
+    (t .take-lowest .result .lowest) (t .take-lowest .result .rest) (x .loop .inv) (t .take-lowest .ensures) (k .has .result)
+    (c .contribution .result) (k .has .ensures) (c .contribution .ensures)
 
 returns : tie.Need-returns Inv-loop μ-loop
 returns c =
@@ -111,14 +90,13 @@ rank-spec =
     Inv-loop
     μ-loop
     loop-holds
-    lowest-requires
+    take-lowest-requires
     has-requires
     add-stones
     cast-o
     add-o
     contribution-requires
     add-r
-    without-lowest-requires
     loop-less
     loop-again
     returns)

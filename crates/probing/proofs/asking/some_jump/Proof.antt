@@ -9,7 +9,6 @@ use Rattle.sets.proofs.Elements.{Taken, taken, lowest-member}
 use Rattle.sets.proofs.Passing.{Sought, sought-none, sought-more, sought-found, sought-all}
 use Rattle.board.specs.Board.{boardOf}
 use Rattle.ranking.specs.Inserting.{Inserting}
-use Rattle.ranking.proofs.Digits.{lowest-least}
 use Rattle.rules.specs.Ply.{targets, removable, slideMoves, afterPly}
 use Rattle.plies.specs.Positions.{Slide}
 use Rattle.plies.proofs.OnPositions.{from-low}

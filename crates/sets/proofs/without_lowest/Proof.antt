@@ -1,8 +1,8 @@
--- `ranking::without_lowest` meets its contract. Assumes nothing.
-use Rattle.ranking.proofs.Digits.{lowest-apart}
+-- `sets::without_lowest` meets its contract. Assumes nothing.
+use Rattle.sets.proofs.Least.{lowest-apart}
 use borrow.Author.Needs.{needs}
-use Rattle.ranking.proofs.without_lowest.Statement.{statement}
-use Rattle.ranking.proofs.without_lowest.Tie as tie
+use Rattle.sets.proofs.without_lowest.Statement.{statement}
+use Rattle.sets.proofs.without_lowest.Tie as tie
 
 sub-result : tie.Need-sub-result
 sub-result c = search needs
