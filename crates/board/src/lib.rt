@@ -9,6 +9,7 @@ pub use position::value_at;
 pub use position::write_board;
 pub use tables::degree;
 pub use tables::degree_table;
+pub use tables::mill_point;
 pub use tables::mill_set;
 pub use tables::mill_table;
 pub use tables::neighbour;

@@ -228,7 +228,7 @@ pub fn degree(table: &[usize; 24], p: usize) -> usize
 }
 
 // Point j of a mill.
-fn mill_point(table: &[usize; 48], mill: usize, j: usize) -> usize
+pub fn mill_point(table: &[usize; 48], mill: usize, j: usize) -> usize
     requires { ⌜ MillTable (now table) ⌝ }
     requires { ⌜ (mill < 16) × (j < 3) ⌝ }
     ensures { λ r. ⌜ r ≡ millPoint mill j ⌝ }

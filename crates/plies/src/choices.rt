@@ -1,62 +1,63 @@
 // What a ply may do, as sets: where a stone may go, and what may be removed then.
 ghost use mathlib.Core.Path.{_≡_};
 ghost use mathlib.Core.Bool.{not, true, false};
-ghost use Prim.Native.Nat.{_*_, _^_, _≤_, _<_};
+ghost use Prim.Native.Nat.{_*_, _^_, _<_};
 ghost use Rattle.lists.specs.Lists.{keep};
 ghost use Rattle.sets.specs.Sets.{has, with, elements, setFrom};
 ghost use Rattle.board.specs.Board.{boardOf};
 ghost use Rattle.rules.specs.Ply.{inMill, targets, slide, removable, removals};
-ghost use Rattle.plies.specs.Masks.{NeighbourMasks, MillMasks};
-ghost use Rattle.plies.specs.Positions.{Placed, Slide};
+ghost use Rattle.plies.specs.Masks.{Masks};
+ghost use Rattle.plies.specs.Positions.{Playable, Slide};
+use super::masks;
 
 // The set that stands for no removal: point 31.
 const NO_REMOVAL: u32 = 2147483648;
 
 // Whether a point stands in a full mill of a set: a count of three decides.
-pub fn in_mill(rings: usize, mills: &[u32; 48], s: u32, p: usize) -> bool
-    requires { ⌜ MillMasks rings (now mills) ⌝ }
-    requires { ⌜ (rings ≤ 3) × (p < 24) ⌝ }
+pub fn in_mill(rings: usize, masks: &[u32; 72], s: u32, p: usize) -> bool
+    requires { ⌜ Masks rings (now masks) ⌝ }
+    requires { ⌜ p < 24 ⌝ }
     ensures { λ r. ⌜ r ≡ inMill rings (λ q. has s q) p ⌝ }
 {
-    sets::share_three(s, mills[2 * p]) | sets::share_three(s, mills[2 * p + 1])
+    sets::share_three(s, masks::mill(masks, rings, p, 0))
+        | sets::share_three(s, masks::mill(masks, rings, p, 1))
 }
 
 // The set with one stone more, if that stands in no full mill of its side.
-fn with_unshielded(rings: usize, mills: &[u32; 48], side: u32, s: u32, p: usize) -> u32
-    requires { ⌜ MillMasks rings (now mills) ⌝ }
-    requires { ⌜ (rings ≤ 3) × (p < 24) ⌝ }
+fn with_unshielded(rings: usize, masks: &[u32; 72], side: u32, s: u32, p: usize) -> u32
+    requires { ⌜ Masks rings (now masks) ⌝ }
+    requires { ⌜ p < 24 ⌝ }
     ensures { λ r. ⌜ r ≡ elim (not (inMill rings (λ q. has side q) p)) [ true ↦ with s p | false ↦ s ] ⌝ }
 {
-    if in_mill(rings, mills, side, p) {
+    if in_mill(rings, masks, side, p) {
         return s;
     }
     sets::with(s, p)
 }
 
 // The stones of a side outside any mill.
-fn unshielded(rings: usize, mills: &[u32; 48], side: u32) -> u32
-    requires { ⌜ MillMasks rings (now mills) ⌝ }
-    requires { ⌜ (rings ≤ 3) × (side < 2 ^ 24) ⌝ }
+fn unshielded(rings: usize, masks: &[u32; 72], side: u32) -> u32
+    requires { ⌜ Masks rings (now masks) ⌝ }
+    requires { ⌜ side < 2 ^ 24 ⌝ }
     ensures { λ r. ⌜ r ≡ setFrom (keep (λ p. not (inMill rings (λ q. has side q) p)) (elements 32 side)) ⌝ }
 {
     let mut s: u32 = 0;
     let mut left = side;
     while left != 0 {
-        let p = sets::lowest(left);
-        s = with_unshielded(rings, mills, side, s, p);
-        left = sets::without(left, p);
+        let next = sets::take_lowest(left);
+        s = with_unshielded(rings, masks, side, s, next.lowest);
+        left = next.rest;
     }
     s
 }
 
 // The opposing stones that a closed mill may remove: those outside any mill, or all if all stand in mills.
-fn removable(rings: usize, mills: &[u32; 48], position: board::Position) -> u32
-    requires { ⌜ MillMasks rings (now mills) ⌝ }
-    requires { ⌜ Placed rings position ⌝ }
+fn removable(rings: usize, masks: &[u32; 72], position: board::Position) -> u32
+    requires { ⌜ Playable rings (now masks) position ⌝ }
     ensures { λ r. ⌜ r ≡ setFrom (removable rings (boardOf (8 * rings) position)) ⌝ }
 {
     let opponent = position.opponent;
-    let free = unshielded(rings, mills, opponent);
+    let free = unshielded(rings, masks, opponent);
     if free == 0 {
         return opponent;
     }
@@ -66,19 +67,19 @@ fn removable(rings: usize, mills: &[u32; 48], position: board::Position) -> u32
 // What a slide from one point to another may remove, 31 for nothing.
 pub fn removals(
     rings: usize,
-    mills: &[u32; 48],
+    masks: &[u32; 72],
     position: board::Position,
     from: usize,
     to: usize,
 ) -> u32
-    requires { ⌜ MillMasks rings (now mills) ⌝ }
-    requires { ⌜ Placed rings position × Slide rings position from to ⌝ }
+    requires { ⌜ Playable rings (now masks) position ⌝ }
+    requires { ⌜ Slide rings position from to ⌝ }
     ensures { λ r. ⌜ r ≡ setFrom (removals (λ n b. removable n b) rings (slide (boardOf (8 * rings) position) from to) to) ⌝ }
 {
     let mover = position.mover;
     let moved = sets::with(sets::without(mover, from), to);
-    if in_mill(rings, mills, moved, to) {
-        let taken = removable(rings, mills, position);
+    if in_mill(rings, masks, moved, to) {
+        let taken = removable(rings, masks, position);
         if taken != 0 {
             return taken;
         }
@@ -87,14 +88,14 @@ pub fn removals(
 }
 
 // Where a stone may go: to a vacant neighbour; with exactly three stones, to any vacant point.
-pub fn targets(rings: usize, near: &[u32; 24], position: board::Position, from: usize) -> u32
-    requires { ⌜ NeighbourMasks rings (now near) ⌝ }
-    requires { ⌜ Placed rings position × (from < 24) ⌝ }
+pub fn targets(rings: usize, masks: &[u32; 72], position: board::Position, from: usize) -> u32
+    requires { ⌜ Playable rings (now masks) position ⌝ }
+    requires { ⌜ from < 24 ⌝ }
     ensures { λ r. ⌜ r ≡ setFrom (targets rings (boardOf (8 * rings) position) from) ⌝ }
 {
     let vacant = board::vacant(8 * rings, position);
     if sets::count(position.mover) == 3 {
         return vacant;
     }
-    vacant & near[from]
+    vacant & masks::neighbours(masks, rings, from)
 }

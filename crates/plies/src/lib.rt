@@ -15,5 +15,4 @@ pub use making::FROM;
 pub use making::TO;
 pub use making::after_ply;
 pub use making::is_move;
-pub use masks::mill_masks;
-pub use masks::neighbour_masks;
+pub use masks::masks_of;

@@ -7,8 +7,7 @@ ghost use lib.Seq.{sets};
 ghost use Rattle.sets.specs.Sets.{elements};
 ghost use Rattle.board.specs.Board.{boardOf};
 ghost use Rattle.rules.specs.Ply.{listedFrom, listedMoves};
-ghost use Rattle.plies.specs.Masks.{NeighbourMasks, MillMasks};
-ghost use Rattle.plies.specs.Positions.{Placed, Vacant};
+ghost use Rattle.plies.specs.Positions.{Playable, Vacant};
 use super::choices;
 use super::making::FROM;
 use super::making::TO;
@@ -16,44 +15,37 @@ use super::making::TO;
 // How many moves one stone has to the points of a set.
 fn count_stone(
     rings: usize,
-    mills: &[u32; 48],
+    masks: &[u32; 72],
     position: board::Position,
     from: usize,
     tos: u32,
 ) -> usize
-    requires { ⌜ MillMasks rings (now mills) ⌝ }
-    requires { ⌜ Placed rings position × Vacant rings position from tos ⌝ }
+    requires { ⌜ Playable rings (now masks) position ⌝ }
+    requires { ⌜ Vacant rings position from tos ⌝ }
     ensures { λ r. ⌜ (r ≡ length (listedFrom rings (boardOf (8 * rings) position) from (elements 32 tos))) × (r ≤ 1024) ⌝ }
 {
     let mut n = 0;
     let mut left = tos;
     while left != 0 {
-        let to = sets::lowest(left);
-        n += sets::count(choices::removals(rings, mills, position, from, to)) as usize;
-        left = sets::without(left, to);
+        let next = sets::take_lowest(left);
+        n += sets::count(choices::removals(rings, masks, position, from, next.lowest)) as usize;
+        left = next.rest;
     }
     n
 }
 
 // How many moves a position has.
-pub fn count_moves(
-    rings: usize,
-    near: &[u32; 24],
-    mills: &[u32; 48],
-    position: board::Position,
-) -> usize
-    requires { ⌜ NeighbourMasks rings (now near) ⌝ }
-    requires { ⌜ MillMasks rings (now mills) ⌝ }
-    requires { ⌜ Placed rings position ⌝ }
+pub fn count_moves(rings: usize, masks: &[u32; 72], position: board::Position) -> usize
+    requires { ⌜ Playable rings (now masks) position ⌝ }
     ensures { λ r. ⌜ r ≡ length (listedMoves rings (boardOf (8 * rings) position)) ⌝ }
 {
     let mut n = 0;
     let mut left = position.mover;
     while left != 0 {
-        let from = sets::lowest(left);
-        let tos = choices::targets(rings, near, position, from);
-        n += count_stone(rings, mills, position, from, tos);
-        left = sets::without(left, from);
+        let next = sets::take_lowest(left);
+        let tos = choices::targets(rings, masks, position, next.lowest);
+        n += count_stone(rings, masks, position, next.lowest, tos);
+        left = next.rest;
     }
     n
 }
@@ -66,10 +58,10 @@ fn list_removals(base: usize, removals: u32, list: &mut [u16], at: usize) -> usi
     let mut k = at;
     let mut left = removals;
     while left != 0 {
-        let p = sets::lowest(left);
-        list[k] = (base + p) as u16;
+        let next = sets::take_lowest(left);
+        list[k] = (base + next.lowest) as u16;
         k += 1;
-        left = sets::without(left, p);
+        left = next.rest;
     }
     k
 }
@@ -77,15 +69,15 @@ fn list_removals(base: usize, removals: u32, list: &mut [u16], at: usize) -> usi
 // Writes the moves of one stone to the points of a set, and answers the next place.
 fn list_stone(
     rings: usize,
-    mills: &[u32; 48],
+    masks: &[u32; 72],
     position: board::Position,
     from: usize,
     tos: u32,
     list: &mut [u16],
     at: usize,
 ) -> usize
-    requires { ⌜ MillMasks rings (now mills) ⌝ }
-    requires { ⌜ Placed rings position × Vacant rings position from tos ⌝ }
+    requires { ⌜ Playable rings (now masks) position ⌝ }
+    requires { ⌜ Vacant rings position from tos ⌝ }
     requires { ⌜ at + length (listedFrom rings (boardOf (8 * rings) position) from (elements 32 tos)) ≤ length (now list) ⌝ }
     ensures place { λ r. ⌜ r ≡ at + length (listedFrom rings (boardOf (8 * rings) position) from (elements 32 tos)) ⌝ }
     ensures list { λ _. ⌜ now (list .exit) ≡ sets (now (list .entry)) at (listedFrom rings (boardOf (8 * rings) position) from (elements 32 tos)) ⌝ }
@@ -93,34 +85,26 @@ fn list_stone(
     let mut k = at;
     let mut left = tos;
     while left != 0 {
-        let to = sets::lowest(left);
-        let removals = choices::removals(rings, mills, position, from, to);
-        k = list_removals(FROM * from + TO * to, removals, list, k);
-        left = sets::without(left, to);
+        let next = sets::take_lowest(left);
+        let removals = choices::removals(rings, masks, position, from, next.lowest);
+        k = list_removals(FROM * from + TO * next.lowest, removals, list, k);
+        left = next.rest;
     }
     k
 }
 
 // Writes the moves of a position at the start of a list that has room for them.
-pub fn list_moves(
-    rings: usize,
-    near: &[u32; 24],
-    mills: &[u32; 48],
-    position: board::Position,
-    list: &mut [u16],
-)
-    requires { ⌜ NeighbourMasks rings (now near) ⌝ }
-    requires { ⌜ MillMasks rings (now mills) ⌝ }
-    requires { ⌜ Placed rings position ⌝ }
+pub fn list_moves(rings: usize, masks: &[u32; 72], position: board::Position, list: &mut [u16])
+    requires { ⌜ Playable rings (now masks) position ⌝ }
     requires { ⌜ length (listedMoves rings (boardOf (8 * rings) position)) ≤ length (now list) ⌝ }
     ensures { λ _. ⌜ now (list .exit) ≡ sets (now (list .entry)) 0 (listedMoves rings (boardOf (8 * rings) position)) ⌝ }
 {
     let mut k = 0;
     let mut left = position.mover;
     while left != 0 {
-        let from = sets::lowest(left);
-        let tos = choices::targets(rings, near, position, from);
-        k = list_stone(rings, mills, position, from, tos, list, k);
-        left = sets::without(left, from);
+        let next = sets::take_lowest(left);
+        let tos = choices::targets(rings, masks, position, next.lowest);
+        k = list_stone(rings, masks, position, next.lowest, tos, list, k);
+        left = next.rest;
     }
 }

@@ -5,8 +5,7 @@ ghost use Prim.Native.Nat.{_*_};
 ghost use Rattle.lists.specs.Lists.{member};
 ghost use Rattle.board.specs.Board.{positionOf, boardOf};
 ghost use Rattle.rules.specs.Ply.{afterPly, listedMoves};
-ghost use Rattle.plies.specs.Masks.{NeighbourMasks, MillMasks};
-ghost use Rattle.plies.specs.Positions.{Placed};
+ghost use Rattle.plies.specs.Positions.{Placed, Playable};
 use super::choices;
 
 // A move number is FROM × from + TO × to + removed, where to and removed are below TO.
@@ -15,16 +14,8 @@ pub const FROM: usize = 1024;
 pub const TO: usize = 32;
 
 // Whether a number is one of a position's moves: its stone, its target and its removal are each tested.
-pub fn is_move(
-    rings: usize,
-    near: &[u32; 24],
-    mills: &[u32; 48],
-    position: board::Position,
-    number: usize,
-) -> bool
-    requires { ⌜ NeighbourMasks rings (now near) ⌝ }
-    requires { ⌜ MillMasks rings (now mills) ⌝ }
-    requires { ⌜ Placed rings position ⌝ }
+pub fn is_move(rings: usize, masks: &[u32; 72], position: board::Position, number: usize) -> bool
+    requires { ⌜ Playable rings (now masks) position ⌝ }
     ensures { λ r. ⌜ r ≡ member number (listedMoves rings (boardOf (8 * rings) position)) ⌝ }
 {
     let from = number / FROM;
@@ -34,9 +25,9 @@ pub fn is_move(
     }
     let mover = position.mover;
     if sets::has(mover, from) {
-        if sets::has(choices::targets(rings, near, position, from), to) {
+        if sets::has(choices::targets(rings, masks, position, from), to) {
             return sets::has(
-                choices::removals(rings, mills, position, from, to),
+                choices::removals(rings, masks, position, from, to),
                 number % TO,
             );
         }

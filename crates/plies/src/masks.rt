@@ -1,14 +1,80 @@
-// Sets derived from the fixed tables: a call makes them once and lends them down.
+// The masks of a board: the neighbours of each point and the two mills through it, as sets. A call derives them once from the fixed tables and lends
+// them down. This file alone knows where the parts lie.
 ghost use mathlib.Core.Path.{_≡_};
 ghost use mathlib.Core.Bool.{true, false};
 ghost use mathlib.Core.List.{[]};
-ghost use Prim.Native.Nat.{_≤_, _<_};
+ghost use Prim.Native.Nat.{_+_, _≤_, _<_};
 ghost use lib.Dec.{ltb};
-ghost use lib.ListN.{length, getD};
+ghost use lib.ListN.{length, getD, replicate};
 ghost use Rattle.sets.specs.Sets.{with, setFrom};
 ghost use Rattle.board.specs.Geometry.{neighbours, mills};
 ghost use Rattle.board.specs.Tables.{NeighbourTable, DegreeTable, MillTable};
-ghost use Rattle.plies.specs.Masks.{NeighbourMasks, millNumbers, millsThrough, MillMasks};
+ghost use Rattle.plies.specs.Masks.{millsThrough, Masks};
+ghost use Rattle.plies.specs.Placing.{placed, millPlaced, millsPlaced};
+
+// The neighbours of a point.
+pub fn neighbours(masks: &[u32; 72], rings: usize, p: usize) -> u32
+    requires { ⌜ Masks rings (now masks) × (p < 24) ⌝ }
+    ensures { λ r. ⌜ r ≡ setFrom (neighbours rings p) ⌝ }
+{
+    masks[p]
+}
+
+// Mill j through a point, the empty set where there is none.
+pub fn mill(masks: &[u32; 72], rings: usize, p: usize, j: usize) -> u32
+    requires { ⌜ Masks rings (now masks) × (p < 24) × (j < 2) ⌝ }
+    ensures { λ r. ⌜ r ≡ setFrom (getD (millsThrough rings p) j []) ⌝ }
+{
+    masks[24 + 2 * p + j]
+}
+
+// A mill at the first of the two places of one of its points, or at the second where the first is taken.
+fn place(masks: &mut [u32; 72], p: usize, mill: u32)
+    requires { ⌜ p < 24 ⌝ }
+    ensures { λ _. ⌜ now (masks .exit) ≡ placed p mill (now (masks .entry)) ⌝ }
+{
+    let first = 24 + 2 * p;
+    let taken = masks[first] != 0;
+    masks[first + taken as usize] = mill;
+}
+
+// One of the sixteen mills at its three points.
+fn place_mill(masks: &mut [u32; 72], table: &[usize; 48], mill: usize)
+    requires { ⌜ MillTable (now table) × (mill < 16) ⌝ }
+    ensures { λ _. ⌜ now (masks .exit) ≡ millPlaced mill (now (masks .entry)) ⌝ }
+{
+    let s = board::mill_set(table, mill);
+    place(masks, board::mill_point(table, mill, 0), s);
+    place(masks, board::mill_point(table, mill, 1), s);
+    place(masks, board::mill_point(table, mill, 2), s);
+}
+
+// How many of the sixteen mills are mills of the board.
+fn mill_count(rings: usize) -> usize
+    requires { ⌜ rings ≤ 3 ⌝ }
+    ensures { λ r. ⌜ (r ≡ length (mills rings)) × (r ≤ 16) ⌝ }
+{
+    if rings == 3 {
+        return 16;
+    }
+    4 * rings
+}
+
+// The mills of the board, each at its points.
+fn mills_placed(rings: usize) -> [u32; 72]
+    requires { ⌜ rings ≤ 3 ⌝ }
+    ensures { λ r. ⌜ r ≡ millsPlaced (length (mills rings)) (replicate 72 0) ⌝ }
+{
+    let table = board::mill_table();
+    let count = mill_count(rings);
+    let mut masks = [0u32; 72];
+    let mut i = 0;
+    while i < count {
+        place_mill(&mut masks, &table, i);
+        i += 1;
+    }
+    masks
+}
 
 // The set with one point more, if that is a point in use.
 fn with_used(s: u32, points: usize, p: usize) -> u32
@@ -38,76 +104,18 @@ fn neighbour_mask(table: &[usize; 96], degrees: &[usize; 24], rings: usize, p: u
     s
 }
 
-// The neighbours of all points.
-pub fn neighbour_masks(rings: usize) -> [u32; 24]
+// The masks of a board.
+pub fn masks_of(rings: usize) -> [u32; 72]
     requires { ⌜ rings ≤ 3 ⌝ }
-    ensures { λ r. ⌜ NeighbourMasks rings r ⌝ }
+    ensures { λ r. ⌜ Masks rings r ⌝ }
 {
     let table = board::neighbour_table();
     let degrees = board::degree_table();
-    let mut masks = [0u32; 24];
+    let mut masks = mills_placed(rings);
     let mut p = 0;
     while p < 24 {
         masks[p] = neighbour_mask(&table, &degrees, rings, p);
         p += 1;
-    }
-    masks
-}
-
-// The number of mill j through a point among the sixteen. Side k of a ring runs from corner k to the next, mill 12 + k goes across the rings.
-fn mill_through(p: usize, j: usize) -> usize
-    requires { ⌜ (p < 24) × (j < 2) ⌝ }
-    ensures { λ r. ⌜ (r ≡ getD (millNumbers p) j 0) × (r < 16) ⌝ }
-{
-    let ring = p / 8;
-    let side = p % 8 / 2;
-    if p % 2 == 1 {
-        if j == 0 {
-            return 4 * ring + side;
-        }
-        return 12 + side;
-    }
-    if side == 0 {
-        return 4 * ring + 3 * j;
-    }
-    4 * ring + side - 1 + j
-}
-
-// How many of the sixteen mills are mills of the board.
-fn mill_count(rings: usize) -> usize
-    requires { ⌜ (1 ≤ rings) × (rings ≤ 3) ⌝ }
-    ensures { λ r. ⌜ r ≡ length (mills rings) ⌝ }
-{
-    if rings == 3 {
-        return 16;
-    }
-    4 * rings
-}
-
-// Mill j through a point as a set, empty where there is none.
-fn mill_mask(table: &[usize; 48], rings: usize, p: usize, j: usize) -> u32
-    requires { ⌜ MillTable (now table) ⌝ }
-    requires { ⌜ (1 ≤ rings) × (rings ≤ 3) × (p < 24) × (j < 2) ⌝ }
-    ensures { λ r. ⌜ r ≡ setFrom (getD (millsThrough rings p) j []) ⌝ }
-{
-    let mill = mill_through(p, j);
-    if mill_count(rings) <= mill {
-        return 0;
-    }
-    board::mill_set(table, mill)
-}
-
-// The mills through all points.
-pub fn mill_masks(rings: usize) -> [u32; 48]
-    requires { ⌜ (1 ≤ rings) × (rings ≤ 3) ⌝ }
-    ensures { λ r. ⌜ MillMasks rings r ⌝ }
-{
-    let table = board::mill_table();
-    let mut masks = [0u32; 48];
-    let mut i = 0;
-    while i < 48 {
-        masks[i] = mill_mask(&table, rings, i / 2, i % 2);
-        i += 1;
     }
     masks
 }

@@ -4,7 +4,7 @@ use mathlib.Core.Bool.{true, false}
 use Prim.Native.Nat.{ℕ}
 use native.Mathlib.Omega.{arith}
 use Rattle.sets.specs.Sets.{bit, without}
-use Rattle.sets.proofs.Elements.{Taken, taken, bit-low}
+use Rattle.sets.proofs.Elements.{bit-low}
 use Rattle.sets.proofs.Passing.{Sought, sought-none, sought-more, sought-found, sought-all}
 use Rattle.plies.proofs.Movable.{movable, stone-stuck, stone-free, none-movable}
 use Rattle.plies.proofs.OnPositions.{mover-small}
@@ -13,34 +13,27 @@ use Rattle.plies.proofs.blocking.blocked.Statement.{statement}
 use Rattle.plies.proofs.blocking.blocked.Tie as tie
 
 abbrev Inv-loop : tie.InvT-loop
-Inv-loop rings near position left₀ left = Sought (λ from. movable rings position from) (position .mover) left
+Inv-loop rings masks position left₀ left = Sought (λ from. movable rings position from) (position .mover) left
 
 abbrev μ-loop : tie.MeasureT-loop
-μ-loop rings near position left₀ left = left
-
--- the stone taken, and the rest
-step : (c : tie.After-lowest Inv-loop μ-loop) (rest : ℕ) → rest ≡ without (c .before .before .loop .left) (c .lowest .result)
-    → Taken 32 (c .before .before .loop .left) (c .lowest .result) rest
-step c rest e =
-    let x = c .before .before in
-    taken 32 (x .loop .left) (c .lowest .result) rest (omega arith) (x .loop .inv .within) (c .before .loop-test .taken) (c .lowest .ensures .0) e
+μ-loop rings masks position left₀ left = left
 
 -- it is one of the mover's
-own : (c : tie.After-lowest Inv-loop μ-loop) → bit (c .before .before .before .args .position .mover) (c .lowest .result) ≡ 1
+own : (c : tie.After-take-lowest Inv-loop μ-loop) → bit (c .before .before .before .args .position .mover) (c .take-lowest .result .lowest) ≡ 1
 own c =
     let x = c .before .before in
-    x .loop .inv .among (c .lowest .result) (step c (without (x .loop .left) (c .lowest .result)) refl .member)
+    x .loop .inv .among (c .take-lowest .result .lowest) (c .take-lowest .ensures .member)
 
 loop-holds : tie.Need-loop-holds Inv-loop μ-loop
-loop-holds c = sought-none _ (c .args .position .mover) (mover-fits (c .args .rings) (c .args .position) (c .pre .1))
+loop-holds c = sought-none _ (c .args .position .mover) (mover-fits (c .args .rings) (c .args .position) (c .pre .placed))
 
-lowest-requires : tie.Need-lowest-requires Inv-loop μ-loop
-lowest-requires c κs = c .loop-test .taken
+take-lowest-requires : tie.Need-take-lowest-requires Inv-loop μ-loop
+take-lowest-requires c κs = c .loop-test .taken
 
 targets-requires : tie.Need-targets-requires Inv-loop μ-loop
 targets-requires c κs =
     let s = c .before .before .before in
-    (s .pre .0, (s .pre .1, bit-low 24 (s .args .position .mover) (c .lowest .result) (mover-small (s .args .rings) (s .args .position) (s .pre .1)) (own c)))
+    (s .pre, bit-low 24 (s .args .position .mover) (c .take-lowest .result .lowest) (mover-small (s .args .rings) (s .args .position) (s .pre .placed)) (own c))
 
 returns : tie.Need-returns Inv-loop μ-loop
 returns c =
@@ -49,34 +42,30 @@ returns c =
     let x = l .before .before in
     let s = x .before in
     let a = s .args in
-    let rest : ℕ = without (x .loop .left) (l .lowest .result) in
-    none-movable (a .rings) (a .position) (s .pre .1) true
-    (sought-found _ (a .position .mover) (x .loop .left) (l .lowest .result) rest (x .loop .inv) (step l rest refl)
-    (stone-free (a .rings) (a .position) (s .pre .1) (l .lowest .result) (t .targets .result) (t .targets .ensures) (c .if1 .taken)))
-
-without-requires : tie.Need-without-requires Inv-loop μ-loop
-without-requires c κs = c .before .before .lowest .ensures .1
+    none-movable (a .rings) (a .position) (s .pre .placed) true
+    (sought-found _ (a .position .mover) (x .loop .left) (l .take-lowest .result .lowest) (l .take-lowest .result .rest) (x .loop .inv) (l .take-lowest .ensures)
+    (stone-free (a .rings) (a .position) (s .pre .placed) (l .take-lowest .result .lowest) (t .targets .result) (t .targets .ensures) (c .if1 .taken)))
 
 loop-less : tie.Need-loop-less Inv-loop μ-loop
-loop-less c = step (c .before .before .before) (c .without .result) (c .without .ensures) .less
+loop-less c = c .before .before .take-lowest .ensures .less
 
 loop-again : tie.Need-loop-again Inv-loop μ-loop
 loop-again c =
-    let t = c .before .before in
+    let t = c .before in
     let l = t .before in
     let x = l .before .before in
     let s = x .before in
     let a = s .args in
-    sought-more _ (a .position .mover) (x .loop .left) (l .lowest .result) (c .without .result) (x .loop .inv)
-    (step l (c .without .result) (c .without .ensures))
-    (stone-stuck (a .rings) (a .position) (s .pre .1) (l .lowest .result) (t .targets .result) (t .targets .ensures) (c .before .if1 .left))
+    sought-more _ (a .position .mover) (x .loop .left) (l .take-lowest .result .lowest) (l .take-lowest .result .rest) (x .loop .inv)
+    (l .take-lowest .ensures)
+    (stone-stuck (a .rings) (a .position) (s .pre .placed) (l .take-lowest .result .lowest) (t .targets .result) (t .targets .ensures) (c .if1 .left))
 
 returns-2 : tie.Need-returns-2 Inv-loop μ-loop
 returns-2 c =
     let x = c .before in
     let s = x .before in
     let a = s .args in
-    none-movable (a .rings) (a .position) (s .pre .1) false (sought-all _ (a .position .mover) (x .loop .left) (x .loop .inv) (c .loop-test .left))
+    none-movable (a .rings) (a .position) (s .pre .placed) false (sought-all _ (a .position .mover) (x .loop .left) (x .loop .inv) (c .loop-test .left))
 
 pub blocked-spec : {M : Type 1} → statement M
 blocked-spec =
@@ -85,10 +74,9 @@ blocked-spec =
     Inv-loop
     μ-loop
     loop-holds
-    lowest-requires
+    take-lowest-requires
     targets-requires
     returns
-    without-requires
     loop-less
     loop-again
     returns-2)

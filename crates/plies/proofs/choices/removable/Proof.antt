@@ -6,18 +6,18 @@ use Rattle.plies.proofs.choices.removable.Tie as tie
 
 unshielded-requires : tie.Need-unshielded-requires
 unshielded-requires c κs =
-    (c .pre .0, (c .pre .1 .small, opponent-small (c .args .rings) (c .args .position) (c .pre .1)))
+    (c .pre .masks, opponent-small (c .args .rings) (c .args .position) (c .pre .placed))
 
 returns : tie.Need-returns
 returns c =
     let s = c .before .before in
-    sym (removable-all (s .args .rings) (s .args .position) (s .pre .1) (sym (c .before .unshielded .ensures) ∙ c .if1 .taken))
+    sym (removable-all (s .args .rings) (s .args .position) (s .pre .placed) (sym (c .before .unshielded .ensures) ∙ c .if1 .taken))
 
 returns-2 : tie.Need-returns-2
 returns-2 c =
     let s = c .before .before in
     let e = c .before .unshielded .ensures in
-    e ∙ sym (removable-free (s .args .rings) (s .args .position) (s .pre .1) (λ z. c .if1 .left (e ∙ z)))
+    e ∙ sym (removable-free (s .args .rings) (s .args .position) (s .pre .placed) (λ z. c .if1 .left (e ∙ z)))
 
 pub removable-spec : {M : Type 1} → statement M
 removable-spec = tie.close (tie.spec unshielded-requires returns returns-2)

@@ -23,7 +23,7 @@ closed m b e =
 without-requires : tie.Need-without-requires
 without-requires c κs =
     let a = c .args in
-    omega (arith, from-low (a .rings) (a .position) (c .pre .1 .0) (a .from) (a .to) (c .pre .1 .1), c .pre .1 .0 .small)
+    omega (arith, from-low (a .rings) (a .position) (c .pre .0 .placed) (a .from) (a .to) (c .pre .1), c .pre .0 .placed .small)
 
 with-requires : tie.Need-with-requires
 with-requires c κs = search needs
@@ -40,7 +40,7 @@ returns c =
     let s = m .before .before .before in
     let a = s .args in
     let e = c .before .removable .ensures in
-    e ∙ removed-one (a .rings) (a .position) (s .pre .1 .0) (a .from) (a .to) (s .pre .1 .1) (closed m true (c .before .before .if1 .taken))
+    e ∙ removed-one (a .rings) (a .position) (s .pre .0 .placed) (a .from) (a .to) (s .pre .1) (closed m true (c .before .before .if1 .taken))
     (λ z. c .if2 .taken (e ∙ z))
 
 returns-2 : tie.Need-returns-2
@@ -48,7 +48,7 @@ returns-2 c =
     let m = c .before .before .before in
     let s = m .before .before .before in
     let a = s .args in
-    removed-idle (a .rings) (a .position) (s .pre .1 .0) (a .from) (a .to) (s .pre .1 .1) (closed m true (c .before .before .if1 .taken))
+    removed-idle (a .rings) (a .position) (s .pre .0 .placed) (a .from) (a .to) (s .pre .1) (closed m true (c .before .before .if1 .taken))
     (sym (c .before .removable .ensures) ∙ c .if2 .left)
 
 returns-3 : tie.Need-returns-3
@@ -56,7 +56,7 @@ returns-3 c =
     let m = c .before in
     let s = m .before .before .before in
     let a = s .args in
-    removed-none (a .rings) (a .position) (s .pre .1 .0) (a .from) (a .to) (s .pre .1 .1) (closed m false (c .if1 .left))
+    removed-none (a .rings) (a .position) (s .pre .0 .placed) (a .from) (a .to) (s .pre .1) (closed m false (c .if1 .left))
 
 pub removals-spec : {M : Type 1} → statement M
 removals-spec =

@@ -26,23 +26,20 @@ returns c =
     let a = s .args in
     let n : ℕ = 8 * a .rings in
     c .before .before .vacant .ensures
-    ∙ sym (targets-jump (a .rings) (s .pre .1 .0 .small) (boardOf n (a .position)) (length-board n (a .position)) (a .from)
-    (sym (mover-count n (a .position) (s .pre .1 .0 .on) (omega (arith, s .pre .1 .0 .small))) ∙ sym (c .before .count .ensures) ∙ c .if1 .taken))
+    ∙ sym (targets-jump (a .rings) (s .pre .0 .placed .small) (boardOf n (a .position)) (length-board n (a .position)) (a .from)
+    (sym (mover-count n (a .position) (s .pre .0 .placed .on) (omega (arith, s .pre .0 .placed .small))) ∙ sym (c .before .count .ensures) ∙ c .if1 .taken))
 
-mul-result : tie.Need-mul-result
-mul-result c = search needs
-
-element-copy-out-result : tie.Need-element-copy-out-result
-element-copy-out-result c = search needs
+neighbours-requires : tie.Need-neighbours-requires
+neighbours-requires c κs = search needs
 
 returns-2 : tie.Need-returns-2
 returns-2 c =
     let s = c .before .before .before .before in
     let a = s .args in
     let n : ℕ = 8 * a .rings in
-    ap₂ bitAnd (c .before .before .before .vacant .ensures) (s .pre .0 .at (a .from) (s .pre .1 .1))
-    ∙ sym (targets-slide (a .rings) (s .pre .1 .0 .small) (boardOf n (a .position)) (length-board n (a .position)) (a .from)
-    (λ e. c .before .if1 .left (c .before .before .count .ensures ∙ mover-count n (a .position) (s .pre .1 .0 .on) (omega (arith, s .pre .1 .0 .small)) ∙ e)))
+    ap₂ bitAnd (c .before .before .before .vacant .ensures) (c .neighbours .ensures)
+    ∙ sym (targets-slide (a .rings) (s .pre .0 .placed .small) (boardOf n (a .position)) (length-board n (a .position)) (a .from)
+    (λ e. c .before .if1 .left (c .before .before .count .ensures ∙ mover-count n (a .position) (s .pre .0 .placed .on) (omega (arith, s .pre .0 .placed .small)) ∙ e)))
 
 pub targets-spec : {M : Type 1} → statement M
 targets-spec =
@@ -52,6 +49,5 @@ targets-spec =
     vacant-requires
     count-requires
     returns
-    mul-result
-    element-copy-out-result
+    neighbours-requires
     returns-2)

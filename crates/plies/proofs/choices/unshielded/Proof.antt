@@ -7,55 +7,45 @@ use Prim.Native.Nat.{ℕ, _^_, _<_}
 use native.Mathlib.Omega.{arith}
 use Rattle.lists.specs.Lists.{keep}
 use Rattle.sets.specs.Sets.{has, without, elements, withAll, setFrom}
-use Rattle.sets.proofs.Elements.{Taken, taken, elements-none, with-none, with-kept, from-is}
+use Rattle.sets.proofs.Elements.{bit-low, elements-none, with-none, with-kept, from-is}
 use Rattle.rules.specs.Ply.{inMill}
 use Rattle.plies.proofs.choices.unshielded.Statement.{statement}
 use Rattle.plies.proofs.choices.unshielded.Tie as tie
 
 abbrev Inv-loop : tie.InvT-loop
-Inv-loop rings mills side s₀ left₀ s left =
+Inv-loop rings masks side s₀ left₀ s left =
     (left < 2 ^ 24)
     × (withAll s (keep (λ p. not (inMill rings (λ q. has side q) p)) (elements 32 left))
     ≡ setFrom (keep (λ p. not (inMill rings (λ q. has side q) p)) (elements 32 side)))
 
 abbrev μ-loop : tie.MeasureT-loop
-μ-loop rings mills side s₀ left₀ s left = left
-
--- the stone taken, and the rest
-step : (c : tie.After-lowest Inv-loop μ-loop) (rest : ℕ) → rest ≡ without (c .before .before .loop .left) (c .lowest .result)
-    → Taken 24 (c .before .before .loop .left) (c .lowest .result) rest
-step c rest e =
-    let x = c .before .before in
-    taken 24 (x .loop .left) (c .lowest .result) rest (omega arith) (x .loop .inv .0) (c .before .loop-test .taken) (c .lowest .ensures .0) e
+μ-loop rings masks side s₀ left₀ s left = left
 
 loop-holds : tie.Need-loop-holds Inv-loop μ-loop
 loop-holds c =
     let a = c .args in
-    (c .pre .1 .1, sym (from-is (keep (λ p. not (inMill (a .rings) (λ q. has (a .side) q) p)) (elements 32 (a .side)))))
+    (c .pre .1, sym (from-is (keep (λ p. not (inMill (a .rings) (λ q. has (a .side) q) p)) (elements 32 (a .side)))))
 
-lowest-requires : tie.Need-lowest-requires Inv-loop μ-loop
-lowest-requires c κs = c .loop-test .taken
+take-lowest-requires : tie.Need-take-lowest-requires Inv-loop μ-loop
+take-lowest-requires c κs = c .loop-test .taken
 
 with-unshielded-requires : tie.Need-with-unshielded-requires Inv-loop μ-loop
 with-unshielded-requires c κs =
-    let s = c .before .before .before in
-    (s .pre .0, (s .pre .1 .0, step c (without (c .before .before .loop .left) (c .lowest .result)) refl .low))
-
-without-requires : tie.Need-without-requires Inv-loop μ-loop
-without-requires c κs = omega (arith, c .before .lowest .ensures .1)
+    let x = c .before .before in
+    (x .before .pre .0, bit-low 24 (x .loop .left) (c .take-lowest .result .lowest) (x .loop .inv .0) (c .take-lowest .ensures .member))
 
 loop-less : tie.Need-loop-less Inv-loop μ-loop
-loop-less c = step (c .before .before) (c .without .result) (c .without .ensures) .less
+loop-less c = c .before .take-lowest .ensures .less
 
 loop-again : tie.Need-loop-again Inv-loop μ-loop
 loop-again c =
-    let x = c .before .before .before .before in
+    let x = c .before .before .before in
     let a = x .before .args in
     let f : ℕ → Bool = λ p. not (inMill (a .rings) (λ q. has (a .side) q) p) in
-    let t = step (c .before .before) (c .without .result) (c .without .ensures) in (
+    let t = c .before .take-lowest .ensures in (
       omega (arith, t .less, x .loop .inv .0),
-      ap (λ (s : ℕ). withAll s (keep f (elements 32 (c .without .result)))) (c .before .with-unshielded .ensures)
-          ∙ sym (with-kept f (x .loop .s) (c .before .before .lowest .result) (elements 32 (c .without .result)))
+      ap (λ (s : ℕ). withAll s (keep f (elements 32 (c .before .take-lowest .result .rest)))) (c .with-unshielded .ensures)
+          ∙ sym (with-kept f (x .loop .s) (c .before .take-lowest .result .lowest) (elements 32 (c .before .take-lowest .result .rest)))
           ∙ ap (λ (l : List ℕ). withAll (x .loop .s) (keep f l)) (sym (t .apart)) ∙ x .loop .inv .1,
     )
 
@@ -74,9 +64,8 @@ unshielded-spec =
     Inv-loop
     μ-loop
     loop-holds
-    lowest-requires
+    take-lowest-requires
     with-unshielded-requires
-    without-requires
     loop-less
     loop-again
     returns)

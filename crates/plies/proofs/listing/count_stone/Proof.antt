@@ -6,7 +6,6 @@ use native.Mathlib.Omega.{arith}
 use lib.ListN.{length, length-map}
 use Rattle.sets.specs.Sets.{members, without}
 use Rattle.sets.proofs.Laws.{members-le}
-use Rattle.sets.proofs.Elements.{Taken, taken}
 use Rattle.sets.proofs.Passing.{Counted, counted-none, counted-more, counted-all}
 use Rattle.board.specs.Board.{boardOf}
 use Rattle.rules.specs.Ply.{slide, removable, removals, moveNumber, slideMoves}
@@ -15,31 +14,24 @@ use Rattle.plies.proofs.listing.count_stone.Statement.{statement}
 use Rattle.plies.proofs.listing.count_stone.Tie as tie
 
 abbrev Inv-loop : tie.InvT-loop
-Inv-loop rings mills position from tos n₀ left₀ n left = Counted
+Inv-loop rings masks position from tos n₀ left₀ n left = Counted
     (λ to. slideMoves (λ m b. removable m b) rings (boardOf (8 * rings) position) from to) tos n left
 
 abbrev μ-loop : tie.MeasureT-loop
-μ-loop rings mills position from tos n₀ left₀ n left = left
-
--- the point taken, and the rest
-step : (c : tie.After-lowest Inv-loop μ-loop) (rest : ℕ) → rest ≡ without (c .before .before .loop .left) (c .lowest .result)
-    → Taken 32 (c .before .before .loop .left) (c .lowest .result) rest
-step c rest e =
-    let x = c .before .before in
-    taken 32 (x .loop .left) (c .lowest .result) rest (omega arith) (x .loop .inv .within) (c .before .loop-test .taken) (c .lowest .ensures .0) e
+μ-loop rings masks position from tos n₀ left₀ n left = left
 
 -- the moves to that point
 found : (c : tie.After-count Inv-loop μ-loop)
     → (c .count .result ≡ length (slideMoves (λ m b. removable m b) (c .before .before .before .before .before .args .rings)
     (boardOf (8 * c .before .before .before .before .before .args .rings) (c .before .before .before .before .before .args .position))
-    (c .before .before .before .before .before .args .from) (c .before .before .lowest .result))) × (c .count .result ≤ 32)
+    (c .before .before .before .before .before .args .from) (c .before .before .take-lowest .result .lowest))) × (c .count .result ≤ 32)
 found c =
     let s = c .before .before .before .before .before in
     let a = s .args in
-    let to : ℕ = c .before .before .lowest .result in
+    let to : ℕ = c .before .before .take-lowest .result .lowest in
     let b : List ℕ = slide (boardOf (8 * a .rings) (a .position)) (a .from) to in
     let e = c .count .ensures in (
-      e ∙ ap (λ (x : ℕ). members x 32) (c .before .removals .ensures) ∙ count-removals (a .rings) (s .pre .1 .0 .small) b to
+      e ∙ ap (λ (x : ℕ). members x 32) (c .before .removals .ensures) ∙ count-removals (a .rings) (s .pre .0 .placed .small) b to
           ∙ sym (length-map (removals (λ m b. removable m b) (a .rings) b to) (λ r. moveNumber (a .from) to r)),
       omega (arith, e, members-le (c .before .removals .result) 32),
     )
@@ -47,19 +39,16 @@ found c =
 loop-holds : tie.Need-loop-holds Inv-loop μ-loop
 loop-holds c = counted-none _ (c .args .tos) (c .fits .tos .fits)
 
-lowest-requires : tie.Need-lowest-requires Inv-loop μ-loop
-lowest-requires c κs = c .loop-test .taken
+take-lowest-requires : tie.Need-take-lowest-requires Inv-loop μ-loop
+take-lowest-requires c κs = c .loop-test .taken
 
 removals-requires : tie.Need-removals-requires Inv-loop μ-loop
 removals-requires c κs =
     let x = c .before .before in
     let s = x .before in (
       s .pre .0,
-      (
-        s .pre .1 .0,
-        s .pre .1 .1 (c .lowest .result)
-            (x .loop .inv .among (c .lowest .result) (step c (without (x .loop .left) (c .lowest .result)) refl .member)),
-      ),
+      s .pre .1 (c .take-lowest .result .lowest)
+          (x .loop .inv .among (c .take-lowest .result .lowest) (c .take-lowest .ensures .member)),
     )
 
 count-requires : tie.Need-count-requires Inv-loop μ-loop
@@ -72,27 +61,24 @@ add-n : tie.Need-add-n Inv-loop μ-loop
 add-n c =
     let x = c .before .before .before .before in
     let a = x .before .args in
-    omega (arith, found c .1, x .loop .inv .total, stone-le (a .rings) (x .before .pre .1 .0 .small) (boardOf (8 * a .rings) (a .position)) (a .from) (a .tos))
-
-without-requires : tie.Need-without-requires Inv-loop μ-loop
-without-requires c κs = omega (arith, c .before .before .lowest .ensures .1)
+    omega (arith, found c .1, x .loop .inv .total, stone-le (a .rings) (x .before .pre .0 .placed .small) (boardOf (8 * a .rings) (a .position)) (a .from) (a .tos))
 
 loop-less : tie.Need-loop-less Inv-loop μ-loop
-loop-less c = step (c .before .before .before) (c .without .result) (c .without .ensures) .less
+loop-less c = c .before .before .take-lowest .ensures .less
 
 loop-again : tie.Need-loop-again Inv-loop μ-loop
 loop-again c =
-    let x = c .before .before .before .before .before in
-    counted-more _ (x .before .args .tos) (x .loop .n) (x .loop .left) (c .before .before .before .lowest .result) (c .without .result)
-    (c .before .count .result)
-    (x .loop .inv) (step (c .before .before .before) (c .without .result) (c .without .ensures)) (found (c .before) .0)
+    let x = c .before .before .before .before in
+    counted-more _ (x .before .args .tos) (x .loop .n) (x .loop .left) (c .before .before .take-lowest .result .lowest) (c .before .before .take-lowest .result .rest)
+    (c .count .result)
+    (x .loop .inv) (c .before .before .take-lowest .ensures) (found c .0)
 
 returns : tie.Need-returns Inv-loop μ-loop
 returns c =
     let x = c .before in
     let a = x .before .args in
     let e = counted-all _ (a .tos) (x .loop .n) (x .loop .left) (x .loop .inv) (c .loop-test .left) in
-    (e, omega (arith, e, stone-le (a .rings) (x .before .pre .1 .0 .small) (boardOf (8 * a .rings) (a .position)) (a .from) (a .tos)))
+    (e, omega (arith, e, stone-le (a .rings) (x .before .pre .0 .placed .small) (boardOf (8 * a .rings) (a .position)) (a .from) (a .tos)))
 
 pub count-stone-spec : {M : Type 1} → statement M
 count-stone-spec =
@@ -101,12 +87,11 @@ count-stone-spec =
     Inv-loop
     μ-loop
     loop-holds
-    lowest-requires
+    take-lowest-requires
     removals-requires
     count-requires
     cast-n
     add-n
-    without-requires
     loop-less
     loop-again
     returns)

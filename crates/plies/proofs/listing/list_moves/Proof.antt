@@ -6,7 +6,7 @@ use native.Mathlib.Omega.{arith}
 use lib.ListN.{length}
 use lib.Seq.{sets}
 use Rattle.sets.specs.Sets.{bit, without, elements}
-use Rattle.sets.proofs.Elements.{Taken, taken, bit-low}
+use Rattle.sets.proofs.Elements.{bit-low}
 use Rattle.sets.proofs.Passing.{Written, written-none, written-more, written-all, written-room}
 use Rattle.board.specs.Board.{boardOf}
 use Rattle.rules.specs.Ply.{targets, removable, stoneMoves}
@@ -16,54 +16,44 @@ use Rattle.plies.proofs.listing.list_moves.Statement.{statement}
 use Rattle.plies.proofs.listing.list_moves.Tie as tie
 
 abbrev Inv-loop : tie.InvT-loop
-Inv-loop rings near mills position list₀ k₀ left₀ list k left =
+Inv-loop rings masks position list₀ k₀ left₀ list k left =
     Written (λ from. stoneMoves (λ m b. removable m b) rings (boardOf (8 * rings) position) from
     (targets rings (boardOf (8 * rings) position) from)) list₀ 0 (position .mover) list k left
 
 abbrev μ-loop : tie.MeasureT-loop
-μ-loop rings near mills position list₀ k₀ left₀ list k left = left
-
--- the stone taken, and the rest
-step : (c : tie.After-lowest Inv-loop μ-loop) (rest : ℕ) → rest ≡ without (c .before .before .loop .left) (c .lowest .result)
-    → Taken 32 (c .before .before .loop .left) (c .lowest .result) rest
-step c rest e =
-    let x = c .before .before in
-    taken 32 (x .loop .left) (c .lowest .result) rest (omega arith) (x .loop .inv .within) (c .before .loop-test .taken) (c .lowest .ensures .0) e
+μ-loop rings masks position list₀ k₀ left₀ list k left = left
 
 -- it is one of the mover's
-own : (c : tie.After-lowest Inv-loop μ-loop) → bit (c .before .before .before .before .args .position .mover) (c .lowest .result) ≡ 1
+own : (c : tie.After-take-lowest Inv-loop μ-loop) → bit (c .before .before .before .before .args .position .mover) (c .take-lowest .result .lowest) ≡ 1
 own c =
     let x = c .before .before in
-    x .loop .inv .among (c .lowest .result) (step c (without (x .loop .left) (c .lowest .result)) refl .member)
+    x .loop .inv .among (c .take-lowest .result .lowest) (c .take-lowest .ensures .member)
 
 -- its moves are those to the set of its targets
 found : (c : tie.After-targets Inv-loop μ-loop)
     → stoneMoves (λ m b. removable m b) (c .before .before .before .before .before .args .rings)
     (boardOf (8 * c .before .before .before .before .before .args .rings) (c .before .before .before .before .before .args .position))
-    (c .before .lowest .result) (elements 32 (c .targets .result))
+    (c .before .take-lowest .result .lowest) (elements 32 (c .targets .result))
     ≡ fromStone (c .before .before .before .before .before .args .rings) (c .before .before .before .before .before .args .position)
-    (c .before .before .before .before .before .pre .1 .1 .0) (c .before .lowest .result)
+    (c .before .before .before .before .before .pre .0 .placed) (c .before .take-lowest .result .lowest)
 found c =
     let s = c .before .before .before .before .before in
-    stone-given (s .args .rings) (s .args .position) (s .pre .1 .1 .0) (c .before .lowest .result) (c .targets .result) (c .targets .ensures)
+    stone-given (s .args .rings) (s .args .position) (s .pre .0 .placed) (c .before .take-lowest .result .lowest) (c .targets .result) (c .targets .ensures)
 
 loop-holds : tie.Need-loop-holds Inv-loop μ-loop
 loop-holds c =
     let s = c .before in
-    written-none _ (s .args .list .now) 0 (s .args .position .mover) (mover-fits (s .args .rings) (s .args .position) (s .pre .1 .1 .0))
+    written-none _ (s .args .list .now) 0 (s .args .position .mover) (mover-fits (s .args .rings) (s .args .position) (s .pre .0 .placed))
 
-lowest-requires : tie.Need-lowest-requires Inv-loop μ-loop
-lowest-requires c κs = c .loop-test .taken
+take-lowest-requires : tie.Need-take-lowest-requires Inv-loop μ-loop
+take-lowest-requires c κs = c .loop-test .taken
 
 targets-requires : tie.Need-targets-requires Inv-loop μ-loop
 targets-requires c κs =
     let s = c .before .before .before .before in (
       s .pre .0,
-      (
-        s .pre .1 .1 .0,
-        bit-low 24 (s .args .position .mover) (c .lowest .result)
-            (mover-small (s .args .rings) (s .args .position) (s .pre .1 .1 .0)) (own c),
-      ),
+      bit-low 24 (s .args .position .mover) (c .take-lowest .result .lowest)
+          (mover-small (s .args .rings) (s .args .position) (s .pre .0 .placed)) (own c),
     )
 
 list-stone-requires : tie.Need-list-stone-requires Inv-loop μ-loop
@@ -72,41 +62,35 @@ list-stone-requires c κs =
     let x = t .before .before .before in
     let s = x .before .before in
     let a = s .args in
-    let from : ℕ = t .before .lowest .result in
-    let rest : ℕ = without (x .loop .left) from in (
-      s .pre .1 .0,
+    let from : ℕ = t .before .take-lowest .result .lowest in
+    let rest : ℕ = t .before .take-lowest .result .rest in (
+      s .pre .0,
       (
-        (
-          s .pre .1 .1 .0,
-          λ to e. targets-vacant (a .rings) (a .position) (s .pre .1 .1 .0) from (own (t .before)) to
-              (sym (ap (λ (y : ℕ). bit y to) (t .targets .ensures)) ∙ e),
-        ),
+        λ to e. targets-vacant (a .rings) (a .position) (s .pre .0 .placed) from (own (t .before)) to
+            (sym (ap (λ (y : ℕ). bit y to) (t .targets .ensures)) ∙ e),
         omega (
           arith,
           ap length (found t),
           written-room _ (a .list .now) 0 (a .position .mover) (x .loop .list) (x .loop .k) (x .loop .left) from rest (x .loop .inv)
-              (step (t .before) rest refl)
-              (omega (arith, s .pre .1 .1 .1, ap length (moves-given (a .rings) (a .position) (s .pre .1 .1 .0)))),
+              (t .before .take-lowest .ensures)
+              (omega (arith, s .pre .1, ap length (moves-given (a .rings) (a .position) (s .pre .0 .placed)))),
         ),
       ),
     )
 
-without-requires : tie.Need-without-requires Inv-loop μ-loop
-without-requires c κs = c .before .before .before .before .before .lowest .ensures .1
-
 loop-less : tie.Need-loop-less Inv-loop μ-loop
-loop-less c = step (c .before .before .before .before .before .before) (c .without .result) (c .without .ensures) .less
+loop-less c = c .before .before .before .before .before .take-lowest .ensures .less
 
 loop-again : tie.Need-loop-again Inv-loop μ-loop
 loop-again c =
-    let m = c .before .before .before in
+    let m = c .before .before in
     let t = m .before .before in
     let x = t .before .before .before in
     let a = x .before .before .args in
     let e = m .list-stone .ensures in
-    written-more _ (a .list .now) 0 (a .position .mover) (x .loop .list) (x .loop .k) (x .loop .left) (t .before .lowest .result)
-    (c .without .result) _ (m .list-stone .result)
-    (x .loop .inv) (step (t .before) (c .without .result) (c .without .ensures))
+    written-more _ (a .list .now) 0 (a .position .mover) (x .loop .list) (x .loop .k) (x .loop .left) (t .before .take-lowest .result .lowest)
+    (t .before .take-lowest .result .rest) _ (m .list-stone .result)
+    (x .loop .inv) (t .before .take-lowest .ensures)
     (e .0 ∙ ap (λ (l : List ℕ). x .loop .k + length l) (found t)) (e .1 ∙ ap (sets (x .loop .list) (x .loop .k)) (found t))
 
 same-length : tie.Need-same-length Inv-loop μ-loop
@@ -118,7 +102,7 @@ returns c =
     let s = x .before .before in
     let a = s .args in
     written-all _ (a .list .now) 0 (a .position .mover) (x .loop .list) (x .loop .k) (x .loop .left) (x .loop .inv) (c .loop-test .left) .1
-    ∙ ap (sets (a .list .now) 0) (sym (moves-given (a .rings) (a .position) (s .pre .1 .1 .0)))
+    ∙ ap (sets (a .list .now) 0) (sym (moves-given (a .rings) (a .position) (s .pre .0 .placed)))
 
 pub list-moves-spec : {M : Type 1} → statement M
 list-moves-spec =
@@ -127,10 +111,9 @@ list-moves-spec =
     Inv-loop
     μ-loop
     loop-holds
-    lowest-requires
+    take-lowest-requires
     targets-requires
     list-stone-requires
-    without-requires
     loop-less
     loop-again
     same-length

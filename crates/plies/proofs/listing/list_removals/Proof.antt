@@ -7,7 +7,6 @@ use borrow.Author.Needs.{needs}
 use lib.ListN.{length, length-map}
 use lib.Seq.{sets}
 use Rattle.sets.specs.Sets.{without, elements}
-use Rattle.sets.proofs.Elements.{Taken, taken}
 use Rattle.sets.proofs.Passing.{Written, written-none, written-more, written-all, written-room, each-map}
 use Rattle.plies.proofs.listing.list_removals.Statement.{statement}
 use Rattle.plies.proofs.listing.list_removals.Tie as tie
@@ -18,22 +17,15 @@ Inv-loop base removals list₀ at k₀ left₀ list k left = Written (λ p. (bas
 abbrev μ-loop : tie.MeasureT-loop
 μ-loop base removals list₀ at k₀ left₀ list k left = left
 
--- the point taken, and the rest
-step : (c : tie.After-lowest Inv-loop μ-loop) (rest : ℕ) → rest ≡ without (c .before .before .loop .left) (c .lowest .result)
-    → Taken 32 (c .before .before .loop .left) (c .lowest .result) rest
-step c rest e =
-    let x = c .before .before in
-    taken 32 (x .loop .left) (c .lowest .result) rest (omega arith) (x .loop .inv .within) (c .before .loop-test .taken) (c .lowest .ensures .0) e
-
 -- there is room for one number more
-room : (c : tie.After-lowest Inv-loop μ-loop) → c .before .before .loop .k + 1 ≤ length (c .before .before .loop .list)
+room : (c : tie.After-take-lowest Inv-loop μ-loop) → c .before .before .loop .k + 1 ≤ length (c .before .before .loop .list)
 room c =
     let x = c .before .before in
     let a = x .before .before .args in
     let e = each-map (λ p. a .base + p) (elements 32 (a .removals)) in
-    written-room _ (a .list .now) (a .at) (a .removals) (x .loop .list) (x .loop .k) (x .loop .left) (c .lowest .result)
-    (without (x .loop .left) (c .lowest .result))
-    (x .loop .inv) (step c (without (x .loop .left) (c .lowest .result)) refl)
+    written-room _ (a .list .now) (a .at) (a .removals) (x .loop .list) (x .loop .k) (x .loop .left) (c .take-lowest .result .lowest)
+    (c .take-lowest .result .rest)
+    (x .loop .inv) (c .take-lowest .ensures)
     (omega (arith, x .before .before .pre .1, ap length e, length-map (elements 32 (a .removals)) (λ p. a .base + p)))
 
 loop-holds : tie.Need-loop-holds Inv-loop μ-loop
@@ -41,36 +33,35 @@ loop-holds c =
     let s = c .before in
     written-none _ (s .args .list .now) (s .args .at) (s .args .removals) (s .fits .removals .fits)
 
-lowest-requires : tie.Need-lowest-requires Inv-loop μ-loop
-lowest-requires c κs = c .loop-test .taken
+take-lowest-requires : tie.Need-take-lowest-requires Inv-loop μ-loop
+take-lowest-requires c κs = c .loop-test .taken
 
 add-list : tie.Need-add-list Inv-loop μ-loop
-add-list c = omega (arith, c .before .before .before .before .pre .0, c .lowest .ensures .1)
+add-list c = omega (arith, c .before .before .before .before .before .pre .0, c .before .take-lowest .ensures .low)
 
 cast-list : tie.Need-cast-list Inv-loop μ-loop
-cast-list c = omega (arith, c .before .before .before .before .pre .0, c .lowest .ensures .1)
+cast-list c = omega (arith, c .before .before .before .before .before .pre .0, c .before .take-lowest .ensures .low)
 
 mul-list : tie.Need-mul-list Inv-loop μ-loop
-mul-list c = let h = room c in search needs
+mul-list c = let h = room (c .before) in search needs
 
 slice-write-list : tie.Need-slice-write-list Inv-loop μ-loop
-slice-write-list c = omega (arith, room c)
+slice-write-list c = omega (arith, room (c .before))
 
 add-k : tie.Need-add-k Inv-loop μ-loop
-add-k c = let h = room c in search needs
-
-without-requires : tie.Need-without-requires Inv-loop μ-loop
-without-requires c κs = c .lowest .ensures .1
+add-k c = let h = room (c .before) in search needs
 
 loop-less : tie.Need-loop-less Inv-loop μ-loop
-loop-less c = step (c .before) (c .without .result) (c .without .ensures) .less
+loop-less c = c .before .take-lowest .ensures .less
 
 loop-again : tie.Need-loop-again Inv-loop μ-loop
 loop-again c =
-    let x = c .before .before .before in
+    let t = c .before in
+    let x = t .before .before in
     let a = x .before .before .args in
-    written-more _ (a .list .now) (a .at) (a .removals) (x .loop .list) (x .loop .k) (x .loop .left) (c .before .lowest .result) (c .without .result) _ _
-    (x .loop .inv) (step (c .before) (c .without .result) (c .without .ensures)) refl refl
+    written-more _ (a .list .now) (a .at) (a .removals) (x .loop .list) (x .loop .k) (x .loop .left) (t .take-lowest .result .lowest)
+    (t .take-lowest .result .rest) _ _
+    (x .loop .inv) (t .take-lowest .ensures) refl refl
 
 same-length : tie.Need-same-length Inv-loop μ-loop
 same-length c = c .before .loop .inv .writing .long
@@ -93,13 +84,12 @@ list-removals-spec =
     Inv-loop
     μ-loop
     loop-holds
-    lowest-requires
+    take-lowest-requires
     add-list
     cast-list
     mul-list
     slice-write-list
     add-k
-    without-requires
     loop-less
     loop-again
     same-length

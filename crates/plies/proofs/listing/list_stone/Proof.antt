@@ -6,7 +6,6 @@ use native.Mathlib.Omega.{arith}
 use lib.ListN.{length, length-map}
 use lib.Seq.{sets}
 use Rattle.sets.specs.Sets.{without, elements}
-use Rattle.sets.proofs.Elements.{Taken, taken}
 use Rattle.sets.proofs.Passing.{Written, written-none, written-more, written-all, written-room}
 use Rattle.board.specs.Board.{boardOf}
 use Rattle.rules.specs.Ply.{slide, removable, removals, slideMoves}
@@ -17,50 +16,43 @@ use Rattle.plies.proofs.listing.list_stone.Statement.{statement}
 use Rattle.plies.proofs.listing.list_stone.Tie as tie
 
 abbrev Inv-loop : tie.InvT-loop
-Inv-loop rings mills position from tos list₀ at k₀ left₀ list k left = Written
+Inv-loop rings masks position from tos list₀ at k₀ left₀ list k left = Written
     (λ to. slideMoves (λ m b. removable m b) rings (boardOf (8 * rings) position) from to) list₀ at tos list k left
 
 abbrev μ-loop : tie.MeasureT-loop
-μ-loop rings mills position from tos list₀ at k₀ left₀ list k left = left
-
--- the point taken, and the rest
-step : (c : tie.After-lowest Inv-loop μ-loop) (rest : ℕ) → rest ≡ without (c .before .before .loop .left) (c .lowest .result)
-    → Taken 32 (c .before .before .loop .left) (c .lowest .result) rest
-step c rest e =
-    let x = c .before .before in
-    taken 32 (x .loop .left) (c .lowest .result) rest (omega arith) (x .loop .inv .within) (c .before .loop-test .taken) (c .lowest .ensures .0) e
+μ-loop rings masks position from tos list₀ at k₀ left₀ list k left = left
 
 -- it is vacant
-slides : (c : tie.After-lowest Inv-loop μ-loop)
+slides : (c : tie.After-take-lowest Inv-loop μ-loop)
     → Slide (c .before .before .before .before .args .rings) (c .before .before .before .before .args .position)
-    (c .before .before .before .before .args .from) (c .lowest .result)
+    (c .before .before .before .before .args .from) (c .take-lowest .result .lowest)
 slides c =
     let x = c .before .before in
-    x .before .before .pre .1 .0 .1 (c .lowest .result)
-    (x .loop .inv .among (c .lowest .result) (step c (without (x .loop .left) (c .lowest .result)) refl .member))
+    x .before .before .pre .1 .0 (c .take-lowest .result .lowest)
+    (x .loop .inv .among (c .take-lowest .result .lowest) (c .take-lowest .ensures .member))
 
 low : (c : tie.After-removals Inv-loop μ-loop) → c .before .before .before .before .before .args .from < 24
 low c =
     let s = c .before .before .before .before .before in
     omega (
       arith,
-      from-low (s .args .rings) (s .args .position) (s .pre .1 .0 .0) (s .args .from) (c .before .lowest .result)
+      from-low (s .args .rings) (s .args .position) (s .pre .0 .placed) (s .args .from) (c .before .take-lowest .result .lowest)
           (slides (c .before)),
-      s .pre .1 .0 .0 .small,
+      s .pre .0 .placed .small,
     )
 
 -- its moves are those that the set of removals gives
 found : (c : tie.After-removals Inv-loop μ-loop)
-    → map (λ p. 1024 * c .before .before .before .before .before .args .from + 32 * c .before .lowest .result + p) (elements 32 (c .removals .result))
+    → map (λ p. 1024 * c .before .before .before .before .before .args .from + 32 * c .before .take-lowest .result .lowest + p) (elements 32 (c .removals .result))
     ≡ slideMoves (λ m b. removable m b) (c .before .before .before .before .before .args .rings)
     (boardOf (8 * c .before .before .before .before .before .args .rings) (c .before .before .before .before .before .args .position))
-    (c .before .before .before .before .before .args .from) (c .before .lowest .result)
+    (c .before .before .before .before .before .args .from) (c .before .take-lowest .result .lowest)
 found c =
     let s = c .before .before .before .before .before in
     let a = s .args in
-    let to : ℕ = c .before .lowest .result in
+    let to : ℕ = c .before .take-lowest .result .lowest in
     ap (map (λ p. 1024 * a .from + 32 * to + p))
-    (ap (elements 32) (c .removals .ensures) ∙ elements-removals (a .rings) (s .pre .1 .0 .0 .small)
+    (ap (elements 32) (c .removals .ensures) ∙ elements-removals (a .rings) (s .pre .0 .placed .small)
     (slide (boardOf (8 * a .rings) (a .position)) (a .from) to) to)
 
 loop-holds : tie.Need-loop-holds Inv-loop μ-loop
@@ -68,57 +60,55 @@ loop-holds c =
     let s = c .before in
     written-none _ (s .args .list .now) (s .args .at) (s .args .tos) (s .fits .tos .fits)
 
-lowest-requires : tie.Need-lowest-requires Inv-loop μ-loop
-lowest-requires c κs = c .loop-test .taken
+take-lowest-requires : tie.Need-take-lowest-requires Inv-loop μ-loop
+take-lowest-requires c κs = c .loop-test .taken
 
 removals-requires : tie.Need-removals-requires Inv-loop μ-loop
 removals-requires c κs =
     let s = c .before .before .before .before in
-    (s .pre .0, (s .pre .1 .0 .0, slides c))
+    (s .pre .0, slides c)
 
 mul-list-removals : tie.Need-mul-list-removals Inv-loop μ-loop
 mul-list-removals c = omega (arith, low c)
 
 mul-list-removals-2 : tie.Need-mul-list-removals-2 Inv-loop μ-loop
-mul-list-removals-2 c = omega (arith, slides (c .before) .low, c .before .before .before .before .before .pre .1 .0 .0 .small)
+mul-list-removals-2 c = omega (arith, slides (c .before .before) .low, c .before .before .before .before .before .before .pre .0 .placed .small)
 
 add-list-removals : tie.Need-add-list-removals Inv-loop μ-loop
-add-list-removals c = omega (arith, low c, slides (c .before) .low, c .before .before .before .before .before .pre .1 .0 .0 .small)
+add-list-removals c = omega (arith, low (c .before), slides (c .before .before) .low, c .before .before .before .before .before .before .pre .0 .placed .small)
 
 list-removals-requires : tie.Need-list-removals-requires Inv-loop μ-loop
 list-removals-requires c κs =
-    let r = c .before in
+    let r = c .before .before in
     let x = r .before .before .before in
     let s = x .before .before in
     let a = s .args in
-    let to : ℕ = r .before .lowest .result in
-    let rest : ℕ = without (x .loop .left) to in (
-      omega (arith, low r, slides (r .before) .low, s .pre .1 .0 .0 .small),
+    let to : ℕ = r .before .take-lowest .result .lowest in
+    let rest : ℕ = r .before .take-lowest .result .rest in (
+      omega (arith, low r, slides (r .before) .low, s .pre .0 .placed .small),
       omega (
         arith,
         length-map (elements 32 (r .removals .result)) (λ p. 1024 * a .from + 32 * to + p),
         ap length (found r),
         written-room _ (a .list .now) (a .at) (a .tos) (x .loop .list) (x .loop .k) (x .loop .left) to rest (x .loop .inv)
-            (step (r .before) rest refl) (s .pre .1 .1),
+            (r .before .take-lowest .ensures) (s .pre .1 .1),
       ),
     )
 
-without-requires : tie.Need-without-requires Inv-loop μ-loop
-without-requires c κs = c .before .before .before .before .before .lowest .ensures .1
-
 loop-less : tie.Need-loop-less Inv-loop μ-loop
-loop-less c = step (c .before .before .before .before .before .before) (c .without .result) (c .without .ensures) .less
+loop-less c = c .before .before .before .before .before .before .take-lowest .ensures .less
 
 loop-again : tie.Need-loop-again Inv-loop μ-loop
 loop-again c =
-    let m = c .before .before .before in
-    let r = m .before .before in
+    let m = c .before .before in
+    let r = m .before .before .before in
     let x = r .before .before .before in
     let a = x .before .before .args in
-    let to : ℕ = r .before .lowest .result in
+    let to : ℕ = r .before .take-lowest .result .lowest in
     let e = m .list-removals .ensures in
-    written-more _ (a .list .now) (a .at) (a .tos) (x .loop .list) (x .loop .k) (x .loop .left) to (c .without .result) _ (m .list-removals .result)
-    (x .loop .inv) (step (r .before) (c .without .result) (c .without .ensures))
+    written-more _ (a .list .now) (a .at) (a .tos) (x .loop .list) (x .loop .k) (x .loop .left) to
+    (r .before .take-lowest .result .rest) _ (m .list-removals .result)
+    (x .loop .inv) (r .before .take-lowest .ensures)
     (e .0 ∙ ap (λ (n : ℕ). x .loop .k + n) (sym (length-map (elements 32 (r .removals .result)) (λ p. 1024 * a .from + 32 * to + p)) ∙ ap length (found r)))
     (e .1 ∙ ap (sets (x .loop .list) (x .loop .k)) (found r))
 
@@ -138,13 +128,12 @@ list-stone-spec =
     Inv-loop
     μ-loop
     loop-holds
-    lowest-requires
+    take-lowest-requires
     removals-requires
     mul-list-removals
     mul-list-removals-2
     add-list-removals
     list-removals-requires
-    without-requires
     loop-less
     loop-again
     same-length
