@@ -7,12 +7,14 @@ use mathlib.Core.Logic.{_⊎_, inl, inr}
 use Prim.Native.Nat.{ℕ, zero, suc}
 use native.Mathlib.Omega.{arith}
 use lib.Dec.{ltb, eqb}
+use lib.ListN.{length}
 use borrow.Author.Tests.{eqb-false}
 use Rattle.lists.specs.Lists.{all}
+use Rattle.solver.specs.Solve.{WholeFill, PairFill}
 use Rattle.refusals.specs.Refusals.{Pick, Picked, pick, tooDeep, table, pickedRows, first, refusal}
 use Rattle.refusals.specs.Conditions.{fillPicks, pairPicks}
 use Rattle.refusals.specs.Answers.{Answer, accepted, refused, answer}
-use Rattle.morris.specs.Fills.{Left, Promise}
+use Rattle.morris.specs.Fills.{Left, Promise, FillCall, FillPairCall}
 use Rattle.refusals.proofs.FirstRefusal.{first-kept, one-more}
 use Rattle.refusals.proofs.Answering.{answer-refused, refused-number, accepted-values}
 
@@ -47,18 +49,11 @@ module _ (picks : List Pick) (last : DepthLast picks) where
       left = subst (λ (r : ℕ). Left r (fill false) before before) e refl;
     }
 
-    pub promise-deep : 0 ≡ refusal picks → fill true → Promise picks fill before after (refused 13)
-    promise-deep e f = record {
-      deep = true;
-      answer-is = ap (λ (r : ℕ). answer r []) (sym (depth-decides true e));
-      left = subst (λ (r : ℕ). Left r (fill true) before after) e f;
-    }
-
-    pub promise-filled : 0 ≡ refusal picks → fill false → Promise picks fill before after (accepted [])
-    promise-filled e f = record {
-      deep = false;
-      answer-is = ap (λ (r : ℕ). answer r []) (sym (depth-decides false e));
-      left = subst (λ (r : ℕ). Left r (fill false) before after) e f;
+    pub promise-kept : (deep : Bool) → 0 ≡ refusal picks → fill deep → Promise picks fill before after (answer (cond deep 13 0) [])
+    promise-kept deep e f = record {
+      deep = deep;
+      answer-is = ap (λ (r : ℕ). answer r []) (sym (depth-decides deep e));
+      left = subst (λ (r : ℕ). Left r (fill deep) before after) e f;
     }
 
     -- read backwards: what an answer says of the refusal met, and of the tablebase
@@ -126,3 +121,28 @@ module _ (picks : List Pick) (last : DepthLast picks) where
         go : (d : Bool) → p .deep ≡ d → ((a ≡ accepted []) × fill false) ⊎ ((a ≡ refused 13) × fill true)
         go true f = inr (answers true f, fills true f)
         go false f = inl (answers false f, fills false f)
+
+-- the ways out of the two calls, by what the solver says of the depth
+module _ (rings k limit : ℕ) (before : List ℕ) where
+  pub fill-refused : (n : ℕ) → (n ≡ 0 → ⊥) → n ≡ refusal (fillPicks rings k limit (length before)) → FillCall rings k limit before before (refused n)
+  fill-refused =
+      promise-refused (fillPicks rings k limit (length before)) (fill-last rings k limit (length before))
+      (λ deep. WholeFill rings k limit before before deep) before before
+
+  pub fill-kept : (after : List ℕ) (said deep : Bool) → 0 ≡ refusal (fillPicks rings k limit (length before)) → WholeFill rings k limit before after said
+      → said ≡ deep → FillCall rings k limit before after (answer (cond deep 13 0) [])
+  fill-kept after said deep e f d =
+      promise-kept (fillPicks rings k limit (length before)) (fill-last rings k limit (length before)) (λ x. WholeFill rings k limit before after x)
+      before after deep e (subst (λ (x : Bool). WholeFill rings k limit before after x) d f)
+
+  module _ (m o : ℕ) where
+    pub pair-turned : (n : ℕ) → (n ≡ 0 → ⊥) → n ≡ refusal (pairPicks rings m o k limit before) → FillPairCall rings m o k limit before before (refused n)
+    pair-turned =
+        promise-refused (pairPicks rings m o k limit before) (pair-last rings m o k limit before) (λ deep. PairFill rings k m o limit before before deep)
+        before before
+
+    pub pair-kept : (after : List ℕ) (said deep : Bool) → 0 ≡ refusal (pairPicks rings m o k limit before) → PairFill rings k m o limit before after said
+        → said ≡ deep → FillPairCall rings m o k limit before after (answer (cond deep 13 0) [])
+    pair-kept after said deep e f d =
+        promise-kept (pairPicks rings m o k limit before) (pair-last rings m o k limit before) (λ x. PairFill rings k m o limit before after x)
+        before after deep e (subst (λ (x : Bool). PairFill rings k m o limit before after x) d f)

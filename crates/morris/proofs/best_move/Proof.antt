@@ -1,6 +1,6 @@
 -- `morris::best_move` meets its contract: a refusal of the board, K or the tablebase, then of a blocked mover or a void successor, or the best move.
 -- Assumes nothing.
-use mathlib.Core.Path.{_≡_, refl, sym, ap, ap₂, subst, _∙_}
+use mathlib.Core.Path.{_≡_, refl, sym, ap, ap₂, _∙_}
 use mathlib.Core.Bool.{Bool, false, cond}
 use mathlib.Core.List.{List, [], _∷_}
 use Prim.Native.Nat.{ℕ, _*_}
@@ -10,18 +10,16 @@ use lib.ListN.{length}
 use borrow.Author.Tests.{eq-eqb, ne-eqb}
 use borrow.Author.Needs.{needs}
 use Rattle.lists.proofs.Lengths.{empty-length}
-use Rattle.board.specs.declared.position.Position.{Position}
 use Rattle.board.specs.Board.{count, boardOf}
 use Rattle.rules.specs.Ply.{listedMoves}
 use Rattle.outcomes.specs.Places.{successorVoid}
-use Rattle.plies.specs.Positions.{Placed}
 use Rattle.refusals.specs.Refusals.{refusal}
 use Rattle.refusals.specs.Conditions.{moverBlocked, tablebasePicks, bestMovePicks}
 use Rattle.refusals.specs.Answers.{accepted}
 use Rattle.morris.specs.BestMoveCall.{bestMoveCall}
 use Rattle.refusals.proofs.TablebaseConditions.{AcceptedEntry, accepted-entry, best-move-refused, best-move-decides}
 use Rattle.refusals.proofs.Conditions.{few-points}
-use Rattle.morris.proofs.Positions.{placed, position-back}
+use Rattle.morris.proofs.Positions.{Stands, stands-for}
 use Rattle.morris.proofs.BestMoves.{Starting, reads-of, void-of, move-of, entry-of}
 use Rattle.refusals.proofs.Answering.{answer-refused, answer-accepted}
 use Rattle.morris.proofs.best_move.Statement.{statement}
@@ -58,13 +56,9 @@ decided : (c : tie.Else1) (t u : Bool) → moverBlocked (started c .args .rings)
     ≡ cond t 9 (cond u 12 0)
 decided c t u e f = best-move-decides _ _ _ _ (passed-first c) ∙ ap₂ (λ (x y : Bool). cond x 9 (cond y 12 0)) e f
 
--- the position is placed, and stands for the board
-on : (c : tie.After-position-of) → Placed (started (placing c) .args .rings) (c .position-of .result)
-on c = subst (λ (p : Position). Placed (started (placing c) .args .rings) p) (sym (c .position-of .ensures)) (placed _ _ (known (placing c) .board))
-
-back : (c : tie.After-position-of)
-    → boardOf (8 * started (placing c) .args .rings) (c .position-of .result) ≡ started (placing c) .args .board .now
-back c = ap (boardOf (8 * started (placing c) .args .rings)) (c .position-of .ensures) ∙ position-back _ _ (known (placing c) .board)
+-- the position stands for the board
+stands : (c : tie.After-position-of) → Stands (started (placing c) .args .rings) (started (placing c) .args .board .now) (c .position-of .result)
+stands c = stands-for _ _ (known (placing c) .board) _ (c .position-of .ensures)
 
 -- its moves are counted, and its successors' tables found
 blocked : (c : tie.After-count-moves)
@@ -72,14 +66,14 @@ blocked : (c : tie.After-count-moves)
 blocked c =
     let a = started (placing (counting c)) .args in
     empty-length (listedMoves (a .rings) (a .board .now))
-    ∙ ap (λ (n : ℕ). eqb n 0) (sym (c .count-moves .ensures ∙ ap (λ (b : List ℕ). length (listedMoves (a .rings) b)) (back (counting c))))
+    ∙ ap (λ (n : ℕ). eqb n 0) (sym (c .count-moves .ensures ∙ ap length (stands (counting c) .moves-back)))
 
 starts : (c : tie.After-starts-of)
     → Starting (started (placing (counting (starting c))) .args .rings) (started (placing (counting (starting c))) .args .k)
     (started (placing (counting (starting c))) .args .board .now)
     (boardOf (8 * started (placing (counting (starting c))) .args .rings) (counting (starting c) .position-of .result))
     (c .starts-of .result .same) (c .starts-of .result .fewer)
-starts c = record { board = back (counting (starting c)); same-is = c .starts-of .ensures .0; fewer-is = c .starts-of .ensures .1 }
+starts c = record { board = stands (counting (starting c)) .back; same-is = c .starts-of .ensures .0; fewer-is = c .starts-of .ensures .1 }
 
 unblocked : (c : tie.After-starts-of)
     → moverBlocked (started (placing (counting (starting c))) .args .rings) (started (placing (counting (starting c))) .args .board .now) ≡ false
@@ -120,7 +114,7 @@ position-of-requires c κs = few-points _ _ (known (c .before .before) .board)
 count-moves-requires : tie.Need-count-moves-requires
 count-moves-requires c κs =
     let p = c .before .before in
-    (p .before .before .neighbour-masks .ensures, (p .before .mill-masks .ensures, on p))
+    (p .before .before .neighbour-masks .ensures, (p .before .mill-masks .ensures, stands p .placed))
 
 returns-2 : tie.Need-returns-2
 unfolding bestMoveCall
@@ -132,9 +126,10 @@ starts-of-requires : tie.Need-starts-of-requires
 starts-of-requires c κs =
     let p = counting (c .before .before) in
     let x = placing p in
-    let w = known x in (
+    let w = known x in
+    let b = stands p .back in (
       x .before .before .before .binomial-table .ensures,
-      (on p, omega (arith, w .tablebase .largest-high, w .in-tables .is-table, ap (count 1) (back p), ap (count 2) (back p))),
+      (stands p .placed, omega (arith, w .tablebase .largest-high, w .in-tables .is-table, ap (count 1) b, ap (count 2) b)),
     )
 
 void-after-requires : tie.Need-void-after-requires
@@ -145,7 +140,7 @@ void-after-requires c κs =
       x .before .before .before .binomial-table .ensures,
       (
         p .before .before .neighbour-masks .ensures,
-        (p .before .mill-masks .ensures, (on p, reads-of _ _ _ (started x .args .tablebase .now) (known x) (starts s))),
+        (p .before .mill-masks .ensures, (stands p .placed, reads-of _ _ _ (started x .args .tablebase .now) (known x) (starts s))),
       ),
     )
 
@@ -170,14 +165,14 @@ best-move-requires c κs =
         (
           p .before .mill-masks .ensures,
           (
-            on p,
+            stands p .placed,
             (
               reads-of _ _ _ (started x .args .tablebase .now) w (starts s),
               (
                 sym (e .before .void-after .ensures) ∙ e .if3 .left,
                 (
                   omega (arith, n .count-moves .ensures, s .before .before .if2 .left),
-                  omega (arith, w .board .counted, ap (count 1) (back p), ap (count 2) (back p)),
+                  omega (arith, w .board .counted, ap (count 1) (stands p .back), ap (count 2) (stands p .back)),
                 ),
               ),
             ),

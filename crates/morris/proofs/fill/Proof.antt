@@ -1,13 +1,15 @@
 -- `morris::fill` meets its contract: turned back with the tablebase as it was, or what the solver leaves. Assumes nothing.
-use mathlib.Core.Path.{_≡_, sym, subst, _∙_}
-use mathlib.Core.Bool.{Bool}
+use mathlib.Core.Path.{_≡_, sym, _∙_}
+use mathlib.Core.Bool.{Bool, true, false, cond}
+use mathlib.Core.List.{[]}
 use native.Mathlib.Omega.{arith}
 use lib.ListN.{length}
-use Rattle.solver.specs.Solve.{WholeFill}
 use Rattle.refusals.specs.Refusals.{refusal}
 use Rattle.refusals.specs.Conditions.{fillPicks}
+use Rattle.refusals.specs.Answers.{answer}
+use Rattle.morris.specs.Fills.{FillCall}
 use Rattle.refusals.proofs.TablebaseConditions.{AcceptedFill, accepted-fill}
-use Rattle.morris.proofs.Promised.{fill-last, promise-refused, promise-deep, promise-filled}
+use Rattle.morris.proofs.Promised.{fill-refused, fill-kept}
 use borrow.Author.Needs.{needs}
 use Rattle.morris.proofs.fill.Statement.{statement}
 use Rattle.morris.proofs.fill.Tie as tie
@@ -24,6 +26,17 @@ none c = sym (c .if1 .left) ∙ c .before .of-fill .ensures
 known : (c : tie.Else1) → AcceptedFill (entered c .args .rings) (entered c .args .k) (entered c .args .limit) (length (entered c .args .tablebase .now))
 known c = accepted-fill _ _ _ _ (sym (none c))
 
+-- what the solver leaves keeps the promise
+abbrev solving : tie.After-solve-all → tie.Else1
+solving c = c .before .before .before .before .before .before .before .before .before
+
+kept : (c : tie.After-solve-all) (deep : Bool) → c .solve-all .result ≡ deep
+    → FillCall (entered (solving c) .args .rings) (entered (solving c) .args .k) (entered (solving c) .args .limit)
+    (entered (solving c) .args .tablebase .now) (c .solve-all .last .0) (answer (cond deep 13 0) [])
+kept c deep d =
+    let a = entered (solving c) .args in
+    fill-kept (a .rings) (a .k) (a .limit) (a .tablebase .now) (c .solve-all .last .0) (c .solve-all .result) deep (none (solving c)) (c .solve-all .ensures) d
+
 binomial-table-requires : tie.Need-binomial-table-requires
 binomial-table-requires c κs = search needs
 
@@ -33,10 +46,7 @@ of-fill-requires c κs = search needs
 returns : tie.Need-returns
 returns c =
     let a = c .before .before .before .before .before .args in
-    promise-refused (fillPicks (a .rings) (a .k) (a .limit) (length (a .tablebase .now)))
-    (fill-last (a .rings) (a .k) (a .limit) (length (a .tablebase .now)))
-    (λ (deep : Bool). WholeFill (a .rings) (a .k) (a .limit) (a .tablebase .now) (a .tablebase .now) deep) (a .tablebase .now) (a .tablebase .now)
-    (c .before .of-fill .result) (c .if1 .taken) (c .before .of-fill .ensures)
+    fill-refused (a .rings) (a .k) (a .limit) (a .tablebase .now) (c .before .of-fill .result) (c .if1 .taken) (c .before .of-fill .ensures)
 
 neighbour-masks-requires : tie.Need-neighbour-masks-requires
 neighbour-masks-requires c κs = known c .tablebase .rings-high
@@ -75,25 +85,13 @@ same-length : tie.Need-same-length
 same-length c = search needs
 
 returns-2 : tie.Need-returns-2
-returns-2 c =
-    let a = c .before .before .before .before .before .before .before .before .before .before .before .before .before .before .before .before .before .args in
-    promise-deep (fillPicks (a .rings) (a .k) (a .limit) (length (a .tablebase .now))) (fill-last (a .rings) (a .k) (a .limit) (length (a .tablebase .now)))
-    (λ (deep : Bool). WholeFill (a .rings) (a .k) (a .limit) (a .tablebase .now) (c .before .before .before .solve-all .last .0) deep) (a .tablebase .now)
-    (c .before .before .before .solve-all .last .0) (none (c .before .before .before .before .before .before .before .before .before .before .before .before))
-    (subst (λ (deep : Bool). WholeFill (a .rings) (a .k) (a .limit) (a .tablebase .now) (c .before .before .before .solve-all .last .0) deep) (c .if2 .taken)
-    (c .before .before .before .solve-all .ensures))
+returns-2 c = kept (c .before .before .before) true (c .if2 .taken)
 
 same-length-2 : tie.Need-same-length-2
 same-length-2 c = search needs
 
 returns-3 : tie.Need-returns-3
-returns-3 c =
-    let a = c .before .before .before .before .before .before .before .before .before .before .before .before .before .before .before .before .before .args in
-    promise-filled (fillPicks (a .rings) (a .k) (a .limit) (length (a .tablebase .now))) (fill-last (a .rings) (a .k) (a .limit) (length (a .tablebase .now)))
-    (λ (deep : Bool). WholeFill (a .rings) (a .k) (a .limit) (a .tablebase .now) (c .before .before .before .solve-all .last .0) deep) (a .tablebase .now)
-    (c .before .before .before .solve-all .last .0) (none (c .before .before .before .before .before .before .before .before .before .before .before .before))
-    (subst (λ (deep : Bool). WholeFill (a .rings) (a .k) (a .limit) (a .tablebase .now) (c .before .before .before .solve-all .last .0) deep) (c .if2 .left)
-    (c .before .before .before .solve-all .ensures))
+returns-3 c = kept (c .before .before .before) false (c .if2 .left)
 
 pub fill-spec : {M : Type 1} → statement M
 fill-spec =

@@ -1,18 +1,18 @@
 -- `morris::fill_pair` meets its contract: turned back with the tablebase as it was, or what the solver leaves. Assumes nothing.
-use mathlib.Core.Path.{_≡_, sym, ap, subst, _∙_}
+use mathlib.Core.Path.{_≡_, sym, ap, _∙_}
 use mathlib.Core.Bool.{Bool, true, false, cond}
-use mathlib.Core.List.{List}
-use Prim.Native.Nat.{ℕ}
+use mathlib.Core.List.{[]}
 use native.Mathlib.Omega.{arith}
 use lib.ListN.{length}
 use Rattle.outcomes.specs.Places.{lowerVoid}
 use Rattle.outcomes.specs.Pair.{Pair}
 use Rattle.outcomes.proofs.Voids.{void-free}
-use Rattle.solver.specs.Solve.{PairFill}
 use Rattle.refusals.specs.Refusals.{refusal}
 use Rattle.refusals.specs.Conditions.{tablesPicks, pairPicks}
+use Rattle.refusals.specs.Answers.{answer}
+use Rattle.morris.specs.Fills.{FillPairCall}
 use Rattle.refusals.proofs.TablebaseConditions.{AcceptedPair, accepted-pair, pair-refused, pair-decides}
-use Rattle.morris.proofs.Promised.{pair-last, promise-refused, promise-deep, promise-filled}
+use Rattle.morris.proofs.Promised.{pair-turned, pair-kept}
 use borrow.Author.Needs.{needs}
 use Rattle.morris.proofs.fill_pair.Statement.{statement}
 use Rattle.morris.proofs.fill_pair.Tie as tie
@@ -50,6 +50,20 @@ decided c t e =
     let a = entered c .args in
     pair-decides (a .rings) (a .mover) (a .opponent) (a .k) (a .limit) (a .tablebase .now) (none c) ∙ ap (λ (u : Bool). cond u 12 0) e
 
+-- what the solver leaves keeps the promise
+abbrev solving : tie.After-solve-given → tie.Else1
+solving c = c .before .before .before .before .before .before .before .before .before .before .before .before .before
+
+kept : (c : tie.After-solve-given) (deep : Bool) → c .solve-given .result ≡ deep
+    → FillPairCall (entered (solving c) .args .rings) (entered (solving c) .args .mover) (entered (solving c) .args .opponent)
+    (entered (solving c) .args .k) (entered (solving c) .args .limit) (entered (solving c) .args .tablebase .now) (c .solve-given .last .0)
+    (answer (cond deep 13 0) [])
+kept c deep d =
+    let a = entered (solving c) .args in
+    let free = c .before .before .before .before .before .before .before .before .before in
+    pair-kept (a .rings) (a .k) (a .limit) (a .tablebase .now) (a .mover) (a .opponent) (c .solve-given .last .0) (c .solve-given .result) deep
+    (sym (decided (solving c) false (sym (free .before .lower-void .ensures) ∙ free .if2 .left))) (c .solve-given .ensures) d
+
 binomial-table-requires : tie.Need-binomial-table-requires
 binomial-table-requires c κs = search needs
 
@@ -60,11 +74,8 @@ returns : tie.Need-returns
 returns c =
     let a = c .before .before .before .before .before .args in
     let n = c .before .of-pair .result in
-    promise-refused (pairPicks (a .rings) (a .mover) (a .opponent) (a .k) (a .limit) (a .tablebase .now))
-    (pair-last (a .rings) (a .mover) (a .opponent) (a .k) (a .limit) (a .tablebase .now))
-    (λ (deep : Bool). PairFill (a .rings) (a .k) (a .mover) (a .opponent) (a .limit) (a .tablebase .now) (a .tablebase .now) deep) (a .tablebase .now)
-    (a .tablebase .now)
-    n (c .if1 .taken) (pair-refused (a .rings) (a .mover) (a .opponent) (a .k) (a .limit) (a .tablebase .now) n (c .if1 .taken) (c .before .of-pair .ensures))
+    pair-turned (a .rings) (a .k) (a .limit) (a .tablebase .now) (a .mover) (a .opponent) n (c .if1 .taken)
+    (pair-refused (a .rings) (a .mover) (a .opponent) (a .k) (a .limit) (a .tablebase .now) n (c .if1 .taken) (c .before .of-pair .ensures))
 
 lower-void-requires : tie.Need-lower-void-requires
 lower-void-requires c κs =
@@ -79,11 +90,8 @@ returns-2 : tie.Need-returns-2
 returns-2 c =
     let x = c .before .before .before .before in
     let a = entered x .args in
-    promise-refused (pairPicks (a .rings) (a .mover) (a .opponent) (a .k) (a .limit) (a .tablebase .now))
-    (pair-last (a .rings) (a .mover) (a .opponent) (a .k) (a .limit) (a .tablebase .now))
-    (λ (deep : Bool). PairFill (a .rings) (a .k) (a .mover) (a .opponent) (a .limit) (a .tablebase .now) (a .tablebase .now) deep) (a .tablebase .now)
-    (a .tablebase .now)
-    12 (λ z. absurd (omega arith)) (sym (decided x true (sym (c .before .lower-void .ensures) ∙ c .if2 .taken)))
+    pair-turned (a .rings) (a .k) (a .limit) (a .tablebase .now) (a .mover) (a .opponent) 12 (λ z. absurd (omega arith))
+    (sym (decided x true (sym (c .before .lower-void .ensures) ∙ c .if2 .taken)))
 
 neighbour-masks-requires : tie.Need-neighbour-masks-requires
 neighbour-masks-requires c κs = known (c .before .before .before .before) .tablebase .rings-high
@@ -126,35 +134,13 @@ same-length-2 : tie.Need-same-length-2
 same-length-2 c = search needs
 
 returns-3 : tie.Need-returns-3
-returns-3 c =
-    let x = c .before .before .before .before .before .before .before .before .before .before .before .before .before .before .before .before in
-    let a = entered x .args in
-    let after : List ℕ = c .before .before .before .solve-given .last .0 in
-    promise-deep (pairPicks (a .rings) (a .mover) (a .opponent) (a .k) (a .limit) (a .tablebase .now))
-    (pair-last (a .rings) (a .mover) (a .opponent) (a .k) (a .limit) (a .tablebase .now))
-    (λ (deep : Bool). PairFill (a .rings) (a .k) (a .mover) (a .opponent) (a .limit) (a .tablebase .now) (after) deep) (a .tablebase .now) after
-    (sym (decided x false (sym (c .before .before .before .before .before .before .before .before .before .before .before .before .before .lower-void
-    .ensures)
-    ∙ c .before .before .before .before .before .before .before .before .before .before .before .before .if2 .left)))
-    (subst (λ (deep : Bool). PairFill (a .rings) (a .k) (a .mover) (a .opponent) (a .limit) (a .tablebase .now) (after) deep) (c .if3 .taken)
-    (c .before .before .before .solve-given .ensures))
+returns-3 c = kept (c .before .before .before) true (c .if3 .taken)
 
 same-length-3 : tie.Need-same-length-3
 same-length-3 c = search needs
 
 returns-4 : tie.Need-returns-4
-returns-4 c =
-    let x = c .before .before .before .before .before .before .before .before .before .before .before .before .before .before .before .before in
-    let a = entered x .args in
-    let after : List ℕ = c .before .before .before .solve-given .last .0 in
-    promise-filled (pairPicks (a .rings) (a .mover) (a .opponent) (a .k) (a .limit) (a .tablebase .now))
-    (pair-last (a .rings) (a .mover) (a .opponent) (a .k) (a .limit) (a .tablebase .now))
-    (λ (deep : Bool). PairFill (a .rings) (a .k) (a .mover) (a .opponent) (a .limit) (a .tablebase .now) (after) deep) (a .tablebase .now) after
-    (sym (decided x false (sym (c .before .before .before .before .before .before .before .before .before .before .before .before .before .lower-void
-    .ensures)
-    ∙ c .before .before .before .before .before .before .before .before .before .before .before .before .if2 .left)))
-    (subst (λ (deep : Bool). PairFill (a .rings) (a .k) (a .mover) (a .opponent) (a .limit) (a .tablebase .now) (after) deep) (c .if3 .left)
-    (c .before .before .before .solve-given .ensures))
+returns-4 c = kept (c .before .before .before) false (c .if3 .left)
 
 pub fill-pair-spec : {M : Type 1} → statement M
 fill-pair-spec =

@@ -1,5 +1,5 @@
 -- `morris::make_move` meets its contract: a refusal of the board or the target, then of the move, or the board after it. Assumes nothing.
-use mathlib.Core.Path.{_≡_, refl, sym, ap, ap₂, subst, _∙_}
+use mathlib.Core.Path.{_≡_, refl, sym, ap, ap₂, _∙_}
 use mathlib.Core.Bool.{Bool, true, cond, not}
 use mathlib.Core.List.{List}
 use Prim.Native.Nat.{ℕ, _*_}
@@ -7,48 +7,47 @@ use native.Mathlib.Omega.{arith}
 use lib.ListN.{length}
 use borrow.Author.Needs.{needs}
 use Rattle.lists.specs.Lists.{member}
-use Rattle.board.specs.declared.position.Position.{Position}
 use Rattle.board.specs.Board.{positionOf, boardOf}
 use Rattle.rules.specs.Ply.{listedMoves, afterPly}
-use Rattle.plies.specs.Positions.{Placed}
 use Rattle.refusals.specs.Refusals.{refusal}
 use Rattle.refusals.specs.Conditions.{targetPicks}
 use Rattle.morris.specs.MakeMoveCall.{makeMoveCall, makeMoveTarget}
 use Rattle.refusals.proofs.Conditions.{Accepted, accepted-target, move-refused, move-decides, few-points}
-use Rattle.morris.proofs.Positions.{placed, position-back, moves-back, after-back}
+use Rattle.morris.proofs.Positions.{Stands, stands-for, after-back}
 use Rattle.refusals.proofs.Answering.{turned-back, written}
 use Rattle.morris.proofs.make_move.Statement.{statement}
 use Rattle.morris.proofs.make_move.Tie as tie
 
--- past the first refusals, the board and the target are accepted
+-- the start of the call, seen from past its first refusals; those passed, seen from where the position is known; and that, from after the test
+abbrev started : tie.Else1 → tie.Start
+started c = c .before .before .before .before
+
+abbrev placing : tie.After-position-of → tie.Else1
+placing c = c .before .before .before
+
+abbrev testing : tie.After-is-move → tie.After-position-of
+testing c = c .before .before .before
+
+-- past the first refusals the target has the board's length, the board is accepted, and its position stands for it
 passed-target : (c : tie.Else1)
-    → 0 ≡ refusal (targetPicks (c .before .before .before .before .args .rings) (c .before .before .before .before .args .board .now)
-    (length (c .before .before .before .before .args .target .now)))
+    → 0 ≡ refusal (targetPicks (started c .args .rings) (started c .args .board .now) (length (started c .args .target .now)))
 passed-target c = sym (c .if1 .left) ∙ c .before .of-target .ensures
 
-board : (c : tie.Else1) → Accepted (c .before .before .before .before .args .rings) (c .before .before .before .before .args .board .now)
-board c = let a = c .before .before .before .before .args in accepted-target (a .rings) (a .board .now) (length (a .target .now)) (sym (passed-target c)) .0
+room : (c : tie.Else1) → length (started c .args .target .now) ≡ 8 * started c .args .rings
+room c = accepted-target _ (started c .args .board .now) _ (sym (passed-target c)) .1
 
-room : (c : tie.Else1) → length (c .before .before .before .before .args .target .now) ≡ 8 * c .before .before .before .before .args .rings
-room c = let a = c .before .before .before .before .args in accepted-target (a .rings) (a .board .now) (length (a .target .now)) (sym (passed-target c)) .1
+board : (c : tie.Else1) → Accepted (started c .args .rings) (started c .args .board .now)
+board c = accepted-target _ _ _ (sym (passed-target c)) .0
 
--- its position is placed, and has its moves
-on : (c : tie.After-position-of) → Placed (c .before .before .before .before .before .before .before .args .rings) (c .position-of .result)
-on c =
-    let x = c .before .before .before in
-    let a = x .before .before .before .before .args in
-    subst (λ (p : Position). Placed (a .rings) p) (sym (c .position-of .ensures)) (placed (a .rings) (a .board .now) (board x))
+stands : (c : tie.After-position-of) → Stands (started (placing c) .args .rings) (started (placing c) .args .board .now) (c .position-of .result)
+stands c = stands-for _ _ (board (placing c)) _ (c .position-of .ensures)
 
-same : (c : tie.After-position-of) (move : ℕ)
-    → member move (listedMoves (c .before .before .before .before .before .before .before .args .rings)
-    (boardOf (8 * c .before .before .before .before .before .before .before .args .rings) (c .position-of .result)))
-    ≡ member move (listedMoves (c .before .before .before .before .before .before .before .args .rings)
-    (c .before .before .before .before .before .before .before .args .board .now))
-same c move =
-    let x = c .before .before .before in
-    let a = x .before .before .before .before .args in
-    ap (member move) (ap (λ (p : Position). listedMoves (a .rings) (boardOf (8 * a .rings) p)) (c .position-of .ensures)
-    ∙ moves-back (a .rings) (a .board .now) (board x))
+-- what was tested is whether the board has the move
+tested : (c : tie.After-is-move)
+    → member (started (placing (testing c)) .args .number)
+    (listedMoves (started (placing (testing c)) .args .rings) (started (placing (testing c)) .args .board .now))
+    ≡ c .is-move .result
+tested c = sym (c .is-move .ensures ∙ ap (member (started (placing (testing c)) .args .number)) (stands (testing c) .moves-back))
 
 of-target-requires : tie.Need-of-target-requires
 of-target-requires c κs = search needs
@@ -68,25 +67,21 @@ mill-masks-requires : tie.Need-mill-masks-requires
 mill-masks-requires c κs = (board (c .before) .rings-low, board (c .before) .rings-high)
 
 position-of-requires : tie.Need-position-of-requires
-position-of-requires c κs =
-    let x = c .before .before in
-    let a = x .before .before .before .before .args in
-    few-points (a .rings) (a .board .now) (board x)
+position-of-requires c κs = few-points _ _ (board (c .before .before))
 
 is-move-requires : tie.Need-is-move-requires
 is-move-requires c κs =
     let p = c .before .before in
-    (p .before .before .neighbour-masks .ensures, (p .before .mill-masks .ensures, on p))
+    (p .before .before .neighbour-masks .ensures, (p .before .mill-masks .ensures, stands p .placed))
 
 after-ply-requires : tie.Need-after-ply-requires
 after-ply-requires c κs =
     let m = c .before in
-    (on (m .before .before .before), sym (m .is-move .ensures) ∙ c .if2 .taken)
+    (stands (testing m) .placed, sym (m .is-move .ensures) ∙ c .if2 .taken)
 
 write-board-requires : tie.Need-write-board-requires
 write-board-requires c κs =
-    let p = c .before .before .before .before .before .before in
-    let x = p .before .before .before in
+    let x = placing (c .before .before .before .before .before .before) in
     omega (arith, room x, board x .rings-high)
 
 same-length : tie.Need-same-length
@@ -99,14 +94,12 @@ returns-2 c =
     let f = w .before .before in
     let t = f .before in
     let m = t .before in
-    let p = m .before .before .before in
-    let x = p .before .before .before in
-    let a = x .before .before .before .before .args in
+    let x = placing (testing m) in
+    let a = started x .args in
     let b : List ℕ = a .board .now in
-    let e : member (a .number) (listedMoves (a .rings) b) ≡ true = sym (same p (a .number)) ∙ sym (m .is-move .ensures) ∙ t .if2 .taken in
+    let e : member (a .number) (listedMoves (a .rings) b) ≡ true = tested m ∙ t .if2 .taken in
     let d : f .after-ply .result ≡ positionOf (afterPly b (a .number)) =
-    f .after-ply .ensures ∙ ap (λ (c : List ℕ). positionOf (afterPly c (a .number)))
-    (ap (boardOf (8 * a .rings)) (p .position-of .ensures) ∙ position-back (a .rings) b (board x)) in
+    f .after-ply .ensures ∙ ap (λ (c : List ℕ). positionOf (afterPly c (a .number))) (stands (testing m) .back) in
     written _ _ _ _ _ _
     (sym (move-decides (a .rings) b (length (a .target .now)) (a .number) (passed-target x) ∙ ap (λ (t : Bool). cond (not t) 8 0) e)) refl
     (w .write-board .ensures ∙ ap₂ boardOf (room x) d ∙ after-back (a .rings) b (board x) (a .number) e)
@@ -115,12 +108,11 @@ returns-3 : tie.Need-returns-3
 unfolding makeMoveCall makeMoveTarget
 returns-3 c =
     let m = c .before in
-    let p = m .before .before .before in
-    let x = p .before .before .before in
-    let a = x .before .before .before .before .args in
+    let x = placing (testing m) in
+    let a = started x .args in
     turned-back _ _ _ _ 8 (λ z. absurd (omega arith))
     (sym (move-decides (a .rings) (a .board .now) (length (a .target .now)) (a .number) (passed-target x)
-    ∙ ap (λ (t : Bool). cond (not t) 8 0) (sym (same p (a .number)) ∙ sym (m .is-move .ensures) ∙ c .if2 .left)))
+    ∙ ap (λ (t : Bool). cond (not t) 8 0) (tested m ∙ c .if2 .left)))
 
 pub make-move-spec : {M : Type 1} → statement M
 make-move-spec =

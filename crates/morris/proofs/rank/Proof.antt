@@ -1,6 +1,6 @@
 -- `morris::rank` meets its contract: the first refusal of the board's picks, or the rank of its position. Assumes nothing.
 use mathlib.Core.Path.{sym, ap, _∙_}
-use mathlib.Core.List.{List, [], _∷_}
+use mathlib.Core.List.{[], _∷_}
 use Prim.Native.Nat.{ℕ}
 use borrow.Author.Needs.{needs}
 use Rattle.ranking.specs.Rank.{rank as Rank·rank}
@@ -9,15 +9,22 @@ use Rattle.refusals.specs.Conditions.{boardPicks}
 use Rattle.refusals.specs.Answers.{accepted}
 use Rattle.morris.specs.RankCall.{rankCall}
 use Rattle.refusals.proofs.Conditions.{Accepted, accepted-board, few-points}
-use Rattle.board.proofs.Sides.{on-board}
-use Rattle.morris.proofs.Positions.{rank-back}
+use Rattle.morris.proofs.Positions.{Stands, stands-for}
 use Rattle.refusals.proofs.Answering.{answer-refused, answer-accepted}
 use Rattle.morris.proofs.rank.Statement.{statement}
 use Rattle.morris.proofs.rank.Tie as tie
 
--- past the refusals, the board is accepted
-board-accepted : (c : tie.Else1) → Accepted (c .before .before .before .args .rings) (c .before .before .before .args .board .now)
-board-accepted c = accepted-board _ _ (sym (c .before .of-board .ensures) ∙ c .if1 .left)
+-- the start of the call, seen from past the refusals
+abbrev started : tie.Else1 → tie.Start
+started c = c .before .before .before
+
+-- past them the board is accepted, and its position stands for it
+board : (c : tie.Else1) → Accepted (started c .args .rings) (started c .args .board .now)
+board c = accepted-board _ _ (sym (c .before .of-board .ensures) ∙ c .if1 .left)
+
+stands : (c : tie.After-position-of)
+    → Stands (started (c .before .before) .args .rings) (started (c .before .before) .args .board .now) (c .position-of .result)
+stands c = stands-for _ _ (board (c .before .before)) _ (c .position-of .ensures)
 
 of-board-requires : tie.Need-of-board-requires
 of-board-requires c κs = search needs
@@ -30,23 +37,21 @@ binomial-table-requires : tie.Need-binomial-table-requires
 binomial-table-requires c κs = search needs
 
 position-of-requires : tie.Need-position-of-requires
-position-of-requires c κs = few-points _ _ (board-accepted (c .before))
+position-of-requires c κs = few-points _ _ (board (c .before))
 
 rank-requires : tie.Need-rank-requires
 rank-requires c κs =
-    let x = c .before .before .before in
-    let b : List ℕ = x .before .before .before .args .board .now in
-    (c .before .before .binomial-table .ensures, (few-points _ b (board-accepted x), on-board b _ (c .before .position-of .ensures)))
+    let p = c .before in
+    (p .before .binomial-table .ensures, (few-points _ _ (board (p .before .before)), stands p .on))
 
 returns-2 : tie.Need-returns-2
 unfolding rankCall
 returns-2 c =
-    let x = c .before .before .before .before in
-    let s = x .before .before .before in
-    let b : List ℕ = s .args .board .now in
-    let e = rank-back b _ (c .before .before .position-of .ensures) (board-accepted x .values) in
-    ap (λ (r : ℕ). accepted (r ∷ [])) (c .rank .ensures ∙ e)
-    ∙ answer-accepted (refusal (boardPicks (s .args .rings) b)) (Rank·rank b ∷ []) (sym (x .if1 .left) ∙ x .before .of-board .ensures)
+    let p = c .before .before in
+    let x = p .before .before in
+    let a = started x .args in
+    ap (λ (r : ℕ). accepted (r ∷ [])) (c .rank .ensures ∙ stands p .rank-back)
+    ∙ answer-accepted (refusal (boardPicks (a .rings) (a .board .now))) (Rank·rank (a .board .now) ∷ []) (sym (x .if1 .left) ∙ x .before .of-board .ensures)
 
 pub rank-spec : {M : Type 1} → statement M
 rank-spec =

@@ -10,14 +10,10 @@ use Rattle.refusals.specs.Refusals.{refusal}
 use Rattle.refusals.specs.Conditions.{boardPicks}
 use Rattle.refusals.specs.Answers.{accepted}
 use Rattle.morris.specs.RepresentativeCall.{representativeCall}
-use Rattle.refusals.proofs.Conditions.{Accepted, accepted-board}
+use Rattle.refusals.proofs.Conditions.{accepted-board}
 use Rattle.refusals.proofs.Answering.{answer-refused, answer-accepted}
 use Rattle.morris.proofs.representative.Statement.{statement}
 use Rattle.morris.proofs.representative.Tie as tie
-
--- past the refusals, the board is accepted
-board-accepted : (c : tie.Else1) → Accepted (c .before .before .before .args .rings) (c .before .before .before .args .board .now)
-board-accepted c = accepted-board _ _ (sym (c .before .of-board .ensures) ∙ c .if1 .left)
 
 of-board-requires : tie.Need-of-board-requires
 of-board-requires c κs = search needs
@@ -31,7 +27,9 @@ binomial-table-requires c κs = search needs
 
 representative-rank-requires : tie.Need-representative-rank-requires
 representative-rank-requires c κs =
-    let w = board-accepted (c .before .before) in
+    let x = c .before .before in
+    let a = x .before .before .before .args in
+    let w = accepted-board (a .rings) (a .board .now) (sym (x .before .of-board .ensures) ∙ x .if1 .left) in
     (c .before .binomial-table .ensures, (omega (arith, w .rings-high), omega (arith, w .points), w .values))
 
 returns-2 : tie.Need-returns-2
