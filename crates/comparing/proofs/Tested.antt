@@ -8,7 +8,7 @@ use native.Mathlib.Decide.{ℕ-discrete}
 use native.Mathlib.Omega.{arith}
 use lib.Dec.{ltb}
 use lib.ListN.{getD}
-use borrow.Author.Tests.{eqb-true, eq-eqb, ltb-true, ltb-false}
+use borrow.Author.Tests.{eqb-true, eq-eqb, ltb-true, ltb-false, not-false}
 use Rattle.lists.proofs.Tests.{and-left, and-right}
 use Rattle.sizes.specs.Size.{size}
 use Rattle.ranking.specs.Rank.{rank}
@@ -17,20 +17,9 @@ use Rattle.ranking.proofs.Inverse.{rank-unrank}
 use Rattle.game.specs.Game.{drawEntry}
 use Rattle.symmetry.specs.Symmetries.{symmetries, image}
 use Rattle.invariance.specs.Used.{SymmetricFrom}
-use Rattle.comparing.specs.Compared.{imageHas, sameImages, Drawn}
+use Rattle.parts.specs.Finding.{First}
+use Rattle.comparing.specs.Compared.{imageHas, sameImages, isDecided}
 use Rattle.comparing.proofs.Generated.{Kept, generated}
-
--- draws passed over
-pub drawn-none : (start : ℕ) (tablebase : List ℕ) (r end : ℕ) → r ≤ end → Drawn start tablebase r end r
-drawn-none start tablebase r end h = record { low = omega arith; high = h; draws = λ j a b. absurd (omega arith) }
-
-pub drawn-more : {start : ℕ} {tablebase : List ℕ} {r end i : ℕ} → Drawn start tablebase r end i → i < end → getD tablebase (start + i) 0 ≡ drawEntry
-    → Drawn start tablebase r end (i + 1)
-drawn-more {start} {tablebase} {r} {end} {i} w l e = record { low = omega (arith, w .low); high = omega arith; draws = λ j a b. go j a b (ℕ-discrete j i) }
-  where
-    go : (j : ℕ) → r ≤ j → j < i + 1 → Dec (j ≡ i) → getD tablebase (start + j) 0 ≡ drawEntry
-    go j a b (yes q) = ap (λ (n : ℕ). getD tablebase (start + n) 0) q ∙ e
-    go j a b (no d) = w .draws j a (omega (arith, d))
 
 module _ (rings start m o : ℕ) (tablebase : List ℕ) where
   -- the entry of rank r, and the board of that rank
@@ -76,13 +65,13 @@ module _ (rings start m o : ℕ) (tablebase : List ℕ) where
   Passed few n = (r : ℕ) → r < n → r < size (8 * rings) m o
       → (getD tablebase (start + r) 0 ≡ drawEntry) ⊎ Kept rings few start m o tablebase (unrank (8 * rings) m o r)
 
-  pub passed-over : (few : rings ≤ 3) (from end i : ℕ) → Drawn start tablebase from end i → Passed few from → Passed few i
+  pub passed-over : (few : rings ≤ 3) (from end i : ℕ) → First (isDecided start tablebase) from end i → Passed few from → Passed few i
   passed-over few from end i w p r l h = go (ltb r from) refl
     where
       go : (c : Bool) → ltb r from ≡ c
           → (getD tablebase (start + r) 0 ≡ drawEntry) ⊎ Kept rings few start m o tablebase (unrank (8 * rings) m o r)
       go true e = p r (ltb-true r from e) h
-      go false e = inl (w .draws r (ltb-false r from e) l)
+      go false e = inl (eqb-true _ _ (not-false _ (w .none r (ltb-false r from e) l)))
 
   pub passed-one : (few : rings ≤ 3) (n : ℕ) → sameImages rings start tablebase (unrank (8 * rings) m o n) (getD tablebase (start + n) 0) ≡ true
       → Passed few n

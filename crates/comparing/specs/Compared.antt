@@ -1,8 +1,7 @@
 -- Whether a table has one entry for all images of a position, as it is tested. Assumes nothing.
-use mathlib.Core.Path.{_≡_}
-use mathlib.Core.Bool.{Bool, true, false, _&&_}
+use mathlib.Core.Bool.{Bool, true, false, not, _&&_}
 use mathlib.Core.List.{List}
-use Prim.Native.Nat.{ℕ, _+_, _≤_, _<_}
+use Prim.Native.Nat.{ℕ, _+_}
 use lib.Dec.{eqb}
 use lib.ListN.{getD}
 use Rattle.ranking.specs.Rank.{rank}
@@ -18,11 +17,9 @@ unfoldable pub sameImages : ℕ → ℕ → List ℕ → List ℕ → ℕ → Bo
 sameImages rings start tablebase b entry =
     (imageHas rings start tablebase b entry 1 && imageHas rings start tablebase b entry 4) && imageHas rings start tablebase b entry 8
 
--- the positions from rank r on and below i are draws
-pub record Drawn (start : ℕ) (tablebase : List ℕ) (r end i : ℕ) : Type 0 where
-  pub low : r ≤ i
-  pub high : i ≤ end
-  pub draws : (j : ℕ) → r ≤ j → j < i → getD tablebase (start + j) 0 ≡ drawEntry
+-- the position of rank r is no draw, in the table that starts at a place
+abbrev pub isDecided : ℕ → List ℕ → ℕ → Bool
+isDecided start tablebase r = not (eqb (getD tablebase (start + r) 0) drawEntry)
 
 -- an answer to whether something holds
 abbrev pub Decides : Type 0 → Bool → Type 0

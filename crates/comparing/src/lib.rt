@@ -9,7 +9,8 @@ ghost use Rattle.sizes.specs.Binomial.{BinomialTable};
 ghost use Rattle.symmetry.specs.Symmetries.{symmetries};
 ghost use Rattle.invariance.specs.Used.{SymmetricFrom};
 ghost use Rattle.imaging.specs.Images.{RingImages};
-ghost use Rattle.comparing.specs.Compared.{imageHas, sameImages, Drawn, Decides};
+ghost use Rattle.parts.specs.Finding.{First};
+ghost use Rattle.comparing.specs.Compared.{imageHas, sameImages, isDecided, Decides};
 use parts::DRAW;
 use sweeping::Source;
 
@@ -87,7 +88,7 @@ fn same_images(
 // The first rank from r on of a position that is no draw, or the size.
 fn find_decided(tablebase: &[u16], start: usize, size: usize, r: usize) -> usize
     requires { ⌜ (r ≤ size) × (start + size ≤ length (now tablebase)) ⌝ }
-    ensures { λ i. ⌜ Drawn start (now (tablebase .entry)) r size i ⌝ }
+    ensures { λ i. ⌜ First (isDecided start (now (tablebase .entry))) r size i ⌝ }
 {
     let mut i = r;
     while i < size {

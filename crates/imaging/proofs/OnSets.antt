@@ -1,6 +1,6 @@
--- The image of a position's sets is the image of its board. Assumes nothing.
+-- The image of a position's sets is the image of its board; an entry written at the images, one after the other. Assumes nothing.
 use mathlib.Core.Path.{_≡_, refl, sym, ap₂, subst, _∙_}
-use Prim.Native.Nat.{ℕ, _+_, _*_, _≤_, _<_}
+use Prim.Native.Nat.{ℕ, zero, suc, _+_, _*_, _≤_, _<_}
 use native.Mathlib.Omega.{arith}
 use lib.Dec.{eqb}
 use Rattle.board.specs.declared.position.Position.{Position}
@@ -11,7 +11,7 @@ use Rattle.symmetry.proofs.Group.{source-low}
 use Rattle.symmetry.proofs.Images.{image-is}
 use mathlib.Core.List.{List}
 use native.Mathlib.Numerals.{add-one}
-use lib.ListN.{set}
+use lib.ListN.{length, set, length-set}
 use Rattle.board.specs.Board.{count}
 use Rattle.board.proofs.Sides.{board-values}
 use Rattle.sizes.specs.Size.{size}
@@ -61,3 +61,8 @@ module _ (rings start : ℕ) (b : List ℕ) (v : ℕ) (tablebase : List ℕ) whe
       → set now (start + r) v ≡ imagesWritten rings start b v tablebase (g + 1)
   unfolding imagesWritten
   one-written g now e r f = rw (e, f, add-one g)
+
+  pub images-length : (n : ℕ) → length (imagesWritten rings start b v tablebase n) ≡ length tablebase
+  unfolding imagesWritten
+  images-length zero = refl
+  images-length (suc n) = length-set (imagesWritten rings start b v tablebase n) (start + rank (image rings n b)) v ∙ images-length n

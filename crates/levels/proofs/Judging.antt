@@ -38,9 +38,10 @@ use Rattle.sweeping.specs.declared.tables.Table.{Table}
 use Rattle.sweeping.specs.Levels.{ranked, judged}
 use Rattle.levels.proofs.Sides.{Side, ranked-is, place-is, entry-is, hit-is}
 use Rattle.imaging.specs.Images.{imagesWritten}
+use Rattle.imaging.proofs.OnSets.{images-length}
 use Rattle.sweeping.specs.Marked.{isMarked, judgedClass, judgedFirst}
 use Rattle.levels.proofs.Views.{opened, opened-mark, opened-other, view, hit-view}
-use Rattle.levels.proofs.Written.{seen-elsewhere, same-on, apart, written-length, written-kept, written-others, written-images}
+use Rattle.levels.proofs.Written.{seen-elsewhere, same-on, apart, written-kept, written-others, written-images}
 
 module _ (rings k m o : ℕ) (pair : Pair rings k m o) (before : List ℕ) (valid : LowerValid rings k m o before) (maps : ℕ) (group : Group maps)
     (mirrored : LowerSymmetric maps rings k m o before) where
@@ -238,8 +239,7 @@ module _ (rings k m o : ℕ) (pair : Pair rings k m o) (before : List ℕ) (vali
           hit-all = record {
             kept = kept-then rings k (BothTables m o) before now all-written (w .kept)
                 (written-kept rings k m o pair x y (side .both) (unrank (8 * rings) x y n) in-b (t .own .start) (side .located .start-is) level now maps few);
-            room = written-length rings k m o pair x y (side .both) (unrank (8 * rings) x y n) in-b (t .own .start) (side .located .start-is) level now
-                maps ∙ w .room;
+            room = images-length rings (t .own .start) (unrank (8 * rings) x y n) level now maps ∙ w .room;
             amid = within-fewer (next rings) (λ c. pairSeed rings k m o before c) (OnPair rings m o) (view rings k all-written) level
                 (λ q. D q ⊎ Of (unrank (8 * rings) x y n) q) D (λ q d. inl d)
                 (written (next rings) (λ c. pairSeed rings k m o before c) (OnPair rings m o) (pair-ground rings k m o pair before valid) level low maps

@@ -8,7 +8,7 @@ use Prim.Native.Nat.{ℕ, zero, suc, _+_, _*_, _≤_, _<_}
 use native.Mathlib.Decide.{ℕ-discrete}
 use native.Mathlib.Omega.{arith}
 use lib.Dec.{ltb}
-use lib.ListN.{length, set, length-set}
+use lib.ListN.{length, set}
 use borrow.Author.Tests.{ltb-true, ltb-false}
 use Rattle.lists.proofs.Tests.{clash}
 use Rattle.board.specs.Board.{count}
@@ -24,6 +24,7 @@ use Rattle.outcomes.proofs.Entries.{entry-two, entry-three, written-here, writt
 use Rattle.symmetry.specs.Symmetries.{symmetries, image}
 use Rattle.invariance.proofs.PairMaps.{image-table}
 use Rattle.imaging.specs.Images.{imagesWritten}
+use Rattle.imaging.proofs.OnSets.{images-length}
 
 module _ (rings k m o : ℕ) (pair : Pair rings k m o) where
   -- one entry written, seen from the pair's game
@@ -102,11 +103,6 @@ module _ (rings k m o : ℕ) (pair : Pair rings k m o) where
       unfolding imagesWritten
       step n h = ap (λ (j : ℕ). set (imagesWritten rings from b v now n) j v) (place-is n h)
 
-      pub written-length : (n : ℕ) → length (imagesWritten rings from b v now n) ≡ length now
-      unfolding imagesWritten
-      written-length zero = refl
-      written-length (suc n) = length-set (imagesWritten rings from b v now n) (from + rank (image rings n b)) v ∙ written-length n
-
       pub written-kept : (n : ℕ) → n ≤ symmetries → Kept rings k (BothTables m o) now (imagesWritten rings from b v now n)
       unfolding imagesWritten
       written-kept zero h = kept-same rings k (BothTables m o) now
@@ -139,7 +135,7 @@ module _ (rings k m o : ℕ) (pair : Pair rings k m o) where
             in-q = subst (λ (c : List ℕ). InPair rings m o c) e (own g (omega arith))
 
             fits : place rings k (image rings n b) < length (after n)
-            fits = omega (arith, written-length n, room, place-within rings k (image rings n b) (stands-own rings k m o pair (image rings n b) (own n h)))
+            fits = omega (arith, images-length rings from b v now n, room, place-within rings k (image rings n b) (stands-own rings k m o pair (image rings n b) (own n h)))
 
             go : (image rings n b ≡ q) ⊎ (image rings n b ≡ q → ⊥) → Dec (g ≡ n) → (Among n q → entryAt rings k (after n) q ≡ v)
                 → entryAt rings k (after (suc n)) q ≡ v

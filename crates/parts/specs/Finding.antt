@@ -1,25 +1,29 @@
--- Where an entry occurs in a list. Assumes nothing.
+-- The first number that passes a test, and where an entry occurs in a list. Assumes nothing.
 use mathlib.Core.Path.{_≡_}
-use mathlib.Core.Bool.{Bool, false, _||_}
+use mathlib.Core.Bool.{Bool, true, false, _||_}
 use mathlib.Core.List.{List}
 use Prim.Native.Nat.{ℕ, zero, suc, _+_, _≤_, _<_}
 use lib.Dec.{eqb}
 use lib.ListN.{getD}
 
+-- r is the first number from `from` on and below `end` that passes a test, and `end` where there is none
+pub record First (test : ℕ → Bool) (from end r : ℕ) : Type 0 where
+  pub low : from ≤ r
+  pub high : r ≤ end
+  pub none : (i : ℕ) → from ≤ i → i < r → test i ≡ false
+  pub here : r < end → test r ≡ true
+
+-- none from `from` on and below r does
+pub record Passed (test : ℕ → Bool) (from end r : ℕ) : Type 0 where
+  pub low : from ≤ r
+  pub high : r ≤ end
+  pub none : (i : ℕ) → from ≤ i → i < r → test i ≡ false
+
+-- v is the entry at place i
+abbrev pub isAt : ℕ → List ℕ → ℕ → Bool
+isAt v l i = eqb (getD l i 0) v
+
 -- v is one of the n entries from place i on
 unfoldable pub occurs : ℕ → List ℕ → ℕ → ℕ → Bool
 occurs v l i zero = false
-occurs v l i (suc n) = eqb (getD l i 0) v || occurs v l (i + 1) n
-
--- r is the first place of v from `from` on and below `end`, and `end` where there is none
-pub record First (v : ℕ) (l : List ℕ) (from end r : ℕ) : Type 0 where
-  pub low : from ≤ r
-  pub high : r ≤ end
-  pub none : (j : ℕ) → from ≤ j → j < r → getD l j 0 ≡ v → ⊥
-  pub here : r < end → getD l r 0 ≡ v
-
--- v does not occur from `from` on before r
-pub record Passed (v : ℕ) (l : List ℕ) (from end r : ℕ) : Type 0 where
-  pub low : from ≤ r
-  pub high : r ≤ end
-  pub none : (j : ℕ) → from ≤ j → j < r → getD l j 0 ≡ v → ⊥
+occurs v l i (suc n) = isAt v l i || occurs v l (i + 1) n

@@ -7,11 +7,12 @@ use Prim.Native.Nat.{ℕ, _*_, _≤_, _<_, min}
 use native.Mathlib.Omega.{arith}
 use lib.Dec.{ltb}
 use lib.ListN.{length, getD}
-use borrow.Author.Tests.{eq-eqb, ne-eqb, ltb-true, ltb-false}
+use borrow.Author.Tests.{eqb-true, eq-eqb, ne-eqb, ltb-true, ltb-false}
+use Rattle.lists.proofs.Tests.{clash}
 use Rattle.sizes.specs.Size.{size}
 use Rattle.game.specs.Game.{voidEntry}
 use Rattle.parts.specs.Parts.{partOf, leastFrom}
-use Rattle.parts.specs.Finding.{First}
+use Rattle.parts.specs.Finding.{First, isAt}
 use Rattle.parts.proofs.LeastDepth.{least-cases, part-below}
 use Rattle.sweeping.specs.declared.tables.Part.{Part}
 use Rattle.sweeping.specs.declared.tables.Table.{Table}
@@ -51,12 +52,12 @@ second-found rings a b now f true s = inr s
 second-found rings a b now f false s = (f, s)
 
 -- an entry sought in a part
-pub held : (now : List ℕ) (p : Part) (e j : ℕ) → First e now (p .start) (p .end) j → Held now p e (ltb j (p .end))
+pub held : (now : List ℕ) (p : Part) (e j : ℕ) → First (isAt e now) (p .start) (p .end) j → Held now p e (ltb j (p .end))
 held now p e j w = go (ltb j (p .end)) refl
   where
     go : (c : Bool) → ltb j (p .end) ≡ c → Held now p e c
-    go true f = let h = ltb-true j (p .end) f in (j, w .low, h, w .here h)
-    go false f = λ (i, l, h, q). w .none i l (omega (arith, ltb-false j (p .end) f)) q
+    go true f = let h = ltb-true j (p .end) f in (j, w .low, h, eqb-true _ _ (w .here h))
+    go false f = λ (i, l, h, q). clash (eq-eqb _ _ q) (w .none i l (omega (arith, ltb-false j (p .end) f)))
 
 -- the first part has none: the second decides
 pub second-held : (a b : Table) (limit level : ℕ) (now : List ℕ) → limit < level → Held now (a .own) level false

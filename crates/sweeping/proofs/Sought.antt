@@ -6,8 +6,7 @@ use Prim.Native.Nat.{ℕ, zero, suc, _+_, _-_, _*_, _≤_, _<_}
 use native.Mathlib.Decide.{le-ind}
 use native.Mathlib.Numerals.{add-one}
 use native.Mathlib.Omega.{arith}
-use lib.Dec.{eqb}
-use lib.ListN.{length, getD, set, length-set}
+use lib.ListN.{length, set, length-set}
 use borrow.Author.Tests.{eq-eqb, ne-eqb, lt-ltb, le-ltb}
 use Rattle.board.specs.Board.{positionOf}
 use Rattle.sizes.specs.Size.{size}
@@ -16,8 +15,10 @@ use Rattle.rules.specs.Predecessors.{predecessors}
 use Rattle.game.specs.Game.{drawEntry, voidEntry}
 use Rattle.game.specs.Judgement.{hit}
 use Rattle.outcomes.specs.Whole.{next}
-use Rattle.parts.specs.Finding.{First}
+use Rattle.parts.specs.Finding.{First, isAt}
+use Rattle.parts.proofs.Firsts.{first-same, first-from}
 use Rattle.imaging.specs.Images.{imagesWritten}
+use Rattle.imaging.proofs.OnSets.{images-length}
 use Rattle.marking.specs.Marks.{marked, places}
 use Rattle.marking.proofs.Marks.{marked-length}
 use Rattle.sweeping.specs.declared.tables.Table.{Table}
@@ -25,24 +26,11 @@ use Rattle.sweeping.specs.declared.cursor.Cursor.{Cursor}
 use Rattle.sweeping.specs.Cursors.{Stands}
 use Rattle.sweeping.specs.declared.marks.Source.{Source}
 use Rattle.sweeping.specs.Levels.{ranked, judged}
-use Rattle.sweeping.specs.Marked.{sameSource, lowerSource, isSource, FirstRank, goneBack, markedPlace, markedFrom, isMarked, judgedClass, judgedFirst, levelMarks, levelByClasses}
-
--- a place found is a rank found
-first-rank : (v start r size j : ℕ) (l : List ℕ) → First v l (start + r) (start + size) j
-    → FirstRank (λ i. eqb (getD l (start + i) 0) v) r size (j - start)
-first-rank v start r size j l w =
-    let h = w .low in
-    let e : start + (j - start) ≡ j = omega arith in
-    record {
-      low = omega arith;
-      high = omega (arith, w .high);
-      none = λ i a b. ne-eqb (getD l (start + i) 0) v (w .none (start + i) (omega arith) (omega arith));
-      here = λ b. ap (λ (i : ℕ). eqb (getD l i 0) v) e ∙ eq-eqb (getD l j 0) v (w .here (omega arith));
-    }
+use Rattle.sweeping.specs.Marked.{sameSource, lowerSource, isSource, goneBack, markedPlace, markedFrom, isMarked, judgedClass, judgedFirst, levelMarks, levelByClasses}
 
 -- the positions of a depth: all or none of two stones, else by their entries
 module _ (s : Source) (depth : ℕ) (now : List ℕ) (r size : ℕ) (h : r ≤ size) where
-  pub source-all : s .mover < 3 → depth ≡ 0 → FirstRank (isSource s depth now) r size r
+  pub source-all : s .mover < 3 → depth ≡ 0 → First (isSource s depth now) r size r
   unfolding isSource
   source-all m e = record {
     low = omega arith;
@@ -51,7 +39,7 @@ module _ (s : Source) (depth : ℕ) (now : List ℕ) (r size : ℕ) (h : r ≤ s
     here = λ b. rw (lt-ltb (s .mover) 3 m, isSource) (eq-eqb depth 0 e);
   }
 
-  pub source-none : s .mover < 3 → (depth ≡ 0 → ⊥) → FirstRank (isSource s depth now) r size size
+  pub source-none : s .mover < 3 → (depth ≡ 0 → ⊥) → First (isSource s depth now) r size size
   unfolding isSource
   source-none m e = record {
     low = h;
@@ -60,20 +48,19 @@ module _ (s : Source) (depth : ℕ) (now : List ℕ) (r size : ℕ) (h : r ≤ s
     here = λ b. absurd (omega arith);
   }
 
-  pub source-first : 3 ≤ s .mover → (j : ℕ) → First depth now (s .start + r) (s .start + size) j → FirstRank (isSource s depth now) r size (j - s .start)
+  pub source-first : 3 ≤ s .mover → (j : ℕ) → First (isAt depth now) (s .start + r) (s .start + size) j → First (isSource s depth now) r size (j - s .start)
   unfolding isSource
   source-first m j f =
-      let w = first-rank depth (s .start) r size j now f in
-      let is : (i : ℕ) → isSource s depth now i ≡ eqb (getD now (s .start + i) 0) depth = λ i. rw (le-ltb (s .mover) 3 m, isSource) in
-      record { low = w .low; high = w .high; none = λ i a b. is i ∙ w .none i a b; here = λ b. is (j - s .start) ∙ w .here b }
+      let is : (i : ℕ) → isSource s depth now i ≡ isAt depth now (s .start + i) = λ i. rw (le-ltb (s .mover) 3 m, isSource) in
+      first-same is (first-from (isAt depth now) (s .start) r size j f)
 
-pub mark-first : (t : Table) (now : List ℕ) (r size j : ℕ) → First voidEntry now (t .own .start + r) (t .own .start + size) j
-    → FirstRank (isMarked t now) r size (j - t .own .start)
+pub mark-first : (t : Table) (now : List ℕ) (r size j : ℕ) → First (isAt voidEntry now) (t .own .start + r) (t .own .start + size) j
+    → First (isMarked t now) r size (j - t .own .start)
 unfolding isMarked
-mark-first t now r size j f = first-rank voidEntry (t .own .start) r size j now f
+mark-first t now r size j f = first-from (isAt voidEntry now) (t .own .start) r size j f
 
 -- what is passed over changes nothing
-passed-over : (F : ℕ → List ℕ) (now : List ℕ) (passes : ℕ → Bool) (from end r : ℕ) → FirstRank passes from end r
+passed-over : (F : ℕ → List ℕ) (now : List ℕ) (passes : ℕ → Bool) (from end r : ℕ) → First passes from end r
     → ((i : ℕ) → F i ≡ now → passes i ≡ false → F (suc i) ≡ now) → F from ≡ now → F r ≡ now
 passed-over F now passes from end r w step e =
     le-ind (λ (k : ℕ). k ≤ r → F k ≡ now) (λ h. e) (λ k i f h. step k (f (omega arith)) (w .none k i (omega arith))) r (w .low) (omega arith)
@@ -125,7 +112,7 @@ module _ (rings start : ℕ) (s : Source) (capture : Bool) (depth : ℕ) (picked
     unfolding markedFrom
     from-step r now e = rw (e, add-one r)
 
-    pub from-over : (from end r : ℕ) (now : List ℕ) → FirstRank (isSource s depth now) from end r
+    pub from-over : (from end r : ℕ) (now : List ℕ) → First (isSource s depth now) from end r
         → now ≡ markedFrom rings start s capture depth picked tablebase from → now ≡ markedFrom rings start s capture depth picked tablebase r
     unfolding markedFrom
     from-over from end r now w e =
@@ -136,11 +123,6 @@ module _ (rings start : ℕ) (s : Source) (capture : Bool) (depth : ℕ) (picked
     unfolding markedFrom
     from-length zero = refl
     from-length (suc n) = place-length n (markedFrom rings start s capture depth picked tablebase n) ∙ from-length n
-
-pub images-length : (rings start : ℕ) (b : List ℕ) (v : ℕ) (now : List ℕ) (n : ℕ) → length (imagesWritten rings start b v now n) ≡ length now
-unfolding imagesWritten
-images-length rings start b v now zero = refl
-images-length rings start b v now (suc n) = length-set (imagesWritten rings start b v now n) _ v ∙ images-length rings start b v now n
 
 module _ (rings : ℕ) (t : Table) (same level maps : ℕ) where
   -- a marked position, as the code judges it
@@ -178,7 +160,7 @@ module _ (rings : ℕ) (t : Table) (same level maps : ℕ) where
     unfolding judgedFirst
     judged-step r now e = rw (e, add-one r)
 
-    pub judged-over : (from end r : ℕ) (now : List ℕ) → FirstRank (isMarked t now) from end r → now ≡ judgedFirst rings t same level maps tablebase from
+    pub judged-over : (from end r : ℕ) (now : List ℕ) → First (isMarked t now) from end r → now ≡ judgedFirst rings t same level maps tablebase from
         → now ≡ judgedFirst rings t same level maps tablebase r
     unfolding judgedFirst
     judged-over from end r now w e =

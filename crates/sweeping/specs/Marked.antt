@@ -39,13 +39,6 @@ Stored s n length = 3 ≤ s .mover → s .start + n ≤ length
 unfoldable pub isSource : Source → ℕ → List ℕ → ℕ → Bool
 isSource s depth tablebase r = elim (ltb (s .mover) 3) [ true ↦ eqb depth 0 | false ↦ eqb (getD tablebase (s .start + r) 0) depth ]
 
--- r is the first number from `from` on and below `end` that passes a test, and `end` where there is none
-pub record FirstRank (passes : ℕ → Bool) (from end r : ℕ) : Type 0 where
-  pub low : from ≤ r
-  pub high : r ≤ end
-  pub none : (i : ℕ) → from ≤ i → i < r → passes i ≡ false
-  pub here : r < end → passes r ≡ true
-
 -- the positions before b are marked in the table that starts at a place, if b is picked
 unfoldable pub goneBack : ℕ → ℕ → Bool → (List ℕ → Bool) → List ℕ → List ℕ → List ℕ
 goneBack rings start capture picked b tablebase = elim (picked b) [

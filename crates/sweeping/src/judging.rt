@@ -9,9 +9,10 @@ ghost use Rattle.sizes.specs.Binomial.{BinomialTable};
 ghost use Rattle.ranking.specs.Unrank.{unrank};
 ghost use Rattle.game.specs.Game.{voidEntry};
 ghost use Rattle.plies.specs.Masks.{NeighbourMasks, MillMasks};
+ghost use Rattle.parts.specs.Finding.{First};
 ghost use Rattle.imaging.specs.Images.{RingImages};
 ghost use Rattle.sweeping.specs.Levels.{Fits};
-ghost use Rattle.sweeping.specs.Marked.{FirstRank, isMarked, judgedClass, judgedFirst};
+ghost use Rattle.sweeping.specs.Marked.{isMarked, judgedClass, judgedFirst};
 use super::cursor;
 use super::tables::Table;
 use parts::DRAW;
@@ -73,7 +74,7 @@ fn judge_place(
 // The first marked rank from r on, or the size.
 fn find_mark(tablebase: &[u16], table: Table, r: usize) -> usize
     requires { ⌜ (table .own .start + r ≤ table .own .end) × (table .own .end ≤ length (now tablebase)) ⌝ }
-    ensures { λ i. ⌜ FirstRank (isMarked table (now (tablebase .entry))) r (table .own .end - table .own .start) i ⌝ }
+    ensures { λ i. ⌜ First (isMarked table (now (tablebase .entry))) r (table .own .end - table .own .start) i ⌝ }
 {
     let own = table.own;
     let start = own.start;

@@ -8,10 +8,11 @@ ghost use Rattle.sizes.specs.Binomial.{BinomialTable};
 ghost use Rattle.game.specs.Game.{voidEntry};
 ghost use Rattle.plies.specs.Masks.{NeighbourMasks, MillMasks};
 ghost use Rattle.plies.specs.Positions.{Placed};
+ghost use Rattle.parts.specs.Finding.{First};
 ghost use Rattle.imaging.specs.Images.{RingImages, leastOfClass};
 ghost use Rattle.marking.specs.Stones.{Room};
 ghost use Rattle.sweeping.specs.Levels.{Lies};
-ghost use Rattle.sweeping.specs.Marked.{Before, Stored, isSource, FirstRank, goneBack, markedFrom};
+ghost use Rattle.sweeping.specs.Marked.{Before, Stored, isSource, goneBack, markedFrom};
 use super::cursor;
 use super::tables::Part;
 use super::tables::Table;
@@ -26,7 +27,7 @@ pub struct Source {
 // The first rank from r on of a position of a depth, or the size.
 fn find_source(tablebase: &[u16], source: Source, size: usize, depth: u16, r: usize) -> usize
     requires { ⌜ (r ≤ size) × Stored source size (length (now tablebase)) ⌝ }
-    ensures { λ i. ⌜ FirstRank (isSource source depth (now (tablebase .entry))) r size i ⌝ }
+    ensures { λ i. ⌜ First (isSource source depth (now (tablebase .entry))) r size i ⌝ }
 {
     if source.mover < 3 {
         if depth == 0 {

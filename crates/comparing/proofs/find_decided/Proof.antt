@@ -1,19 +1,23 @@
 -- `comparing::find_decided` meets its contract. The invariant: what is passed are draws. Assumes nothing.
+use mathlib.Core.Path.{ap}
+use mathlib.Core.Bool.{not}
 use Prim.Native.Nat.{_-_}
 use native.Mathlib.Omega.{arith}
-use Rattle.comparing.specs.Compared.{Drawn}
-use Rattle.comparing.proofs.Tested.{drawn-none, drawn-more}
+use borrow.Author.Tests.{eq-eqb, ne-eqb}
+use Rattle.parts.specs.Finding.{Passed}
+use Rattle.parts.proofs.Firsts.{passed-none, passed-one, first-here, first-none}
+use Rattle.comparing.specs.Compared.{isDecided}
 use Rattle.comparing.proofs.find_decided.Statement.{statement}
 use Rattle.comparing.proofs.find_decided.Tie as tie
 
 abbrev Inv-loop : tie.InvT-loop
-Inv-loop tablebase start size r i₀ i = Drawn start tablebase r size i
+Inv-loop tablebase start size r i₀ i = Passed (isDecided start tablebase) r size i
 
 abbrev μ-loop : tie.MeasureT-loop
 μ-loop tablebase start size r i₀ i = size - i
 
 loop-holds : tie.Need-loop-holds Inv-loop μ-loop
-loop-holds c = drawn-none (c .args .start) (c .args .tablebase .now) (c .args .r) (c .args .size) (c .pre .0)
+loop-holds c = passed-none (isDecided (c .args .start) (c .args .tablebase .now)) (c .args .r) (c .args .size) (c .pre .0)
 
 add-if1 : tie.Need-add-if1 Inv-loop μ-loop
 add-if1 c = omega (arith, c .loop-test .taken, c .before .before .pre .1)
@@ -25,7 +29,7 @@ shared-slice-read-if1 : tie.Need-shared-slice-read-if1 Inv-loop μ-loop
 shared-slice-read-if1 c = omega (arith, c .before .loop-test .taken, c .before .before .before .pre .1)
 
 returns : tie.Need-returns Inv-loop μ-loop
-returns c = c .before .before .before .loop .inv
+returns c = first-here (c .before .before .before .loop .inv) (ap not (ne-eqb _ _ (c .if1 .taken)))
 
 add-i : tie.Need-add-i Inv-loop μ-loop
 add-i c = omega (arith, c .before .before .loop-test .taken)
@@ -34,10 +38,10 @@ loop-less : tie.Need-loop-less Inv-loop μ-loop
 loop-less c = omega (arith, c .before .before .loop-test .taken)
 
 loop-again : tie.Need-loop-again Inv-loop μ-loop
-loop-again c = drawn-more (c .before .before .before .loop .inv) (c .before .before .loop-test .taken) (c .if1 .left)
+loop-again c = passed-one (c .before .before .before .loop .inv) (ap not (eq-eqb _ _ (c .if1 .left))) (c .before .before .loop-test .taken)
 
 returns-2 : tie.Need-returns-2 Inv-loop μ-loop
-returns-2 c = c .before .loop .inv
+returns-2 c = first-none (c .before .loop .inv) (omega (arith, c .loop-test .left))
 
 pub find-decided-spec : {M : Type 1} → statement M
 find-decided-spec =

@@ -19,7 +19,7 @@ use Rattle.refusals.specs.Answers.{accepted}
 use Rattle.morris.specs.BestMoveCall.{bestMoveCall}
 use Rattle.refusals.proofs.TablebaseConditions.{AcceptedEntry, accepted-entry, best-move-refused, best-move-decides}
 use Rattle.refusals.proofs.Conditions.{few-points}
-use Rattle.morris.proofs.Positions.{Stands, stands-for}
+use Rattle.morris.proofs.Positions.{Shows, board-shown}
 use Rattle.morris.proofs.BestMoves.{Starting, reads-of, void-of, move-of, entry-of}
 use Rattle.refusals.proofs.Answering.{answer-refused, answer-accepted}
 use Rattle.morris.proofs.best_move.Statement.{statement}
@@ -56,9 +56,9 @@ decided : (c : tie.Else1) (t u : Bool) → moverBlocked (started c .args .rings)
     ≡ cond t 9 (cond u 12 0)
 decided c t u e f = best-move-decides _ _ _ _ (passed-first c) ∙ ap₂ (λ (x y : Bool). cond x 9 (cond y 12 0)) e f
 
--- the position stands for the board
-stands : (c : tie.After-position-of) → Stands (started (placing c) .args .rings) (started (placing c) .args .board .now) (c .position-of .result)
-stands c = stands-for _ _ (known (placing c) .board) _ (c .position-of .ensures)
+-- the position shows the board
+shows : (c : tie.After-position-of) → Shows (started (placing c) .args .rings) (started (placing c) .args .board .now) (c .position-of .result)
+shows c = board-shown _ _ (known (placing c) .board) _ (c .position-of .ensures)
 
 -- its moves are counted, and its successors' tables found
 blocked : (c : tie.After-count-moves)
@@ -66,14 +66,14 @@ blocked : (c : tie.After-count-moves)
 blocked c =
     let a = started (placing (counting c)) .args in
     empty-length (listedMoves (a .rings) (a .board .now))
-    ∙ ap (λ (n : ℕ). eqb n 0) (sym (c .count-moves .ensures ∙ ap length (stands (counting c) .moves-back)))
+    ∙ ap (λ (n : ℕ). eqb n 0) (sym (c .count-moves .ensures ∙ ap length (shows (counting c) .moves-back)))
 
 starts : (c : tie.After-starts-of)
     → Starting (started (placing (counting (starting c))) .args .rings) (started (placing (counting (starting c))) .args .k)
     (started (placing (counting (starting c))) .args .board .now)
     (boardOf (8 * started (placing (counting (starting c))) .args .rings) (counting (starting c) .position-of .result))
     (c .starts-of .result .same) (c .starts-of .result .fewer)
-starts c = record { board = stands (counting (starting c)) .back; same-is = c .starts-of .ensures .0; fewer-is = c .starts-of .ensures .1 }
+starts c = record { board = shows (counting (starting c)) .back; same-is = c .starts-of .ensures .0; fewer-is = c .starts-of .ensures .1 }
 
 unblocked : (c : tie.After-starts-of)
     → moverBlocked (started (placing (counting (starting c))) .args .rings) (started (placing (counting (starting c))) .args .board .now) ≡ false
@@ -114,7 +114,7 @@ position-of-requires c κs = few-points _ _ (known (c .before .before) .board)
 count-moves-requires : tie.Need-count-moves-requires
 count-moves-requires c κs =
     let p = c .before .before in
-    (p .before .before .neighbour-masks .ensures, (p .before .mill-masks .ensures, stands p .placed))
+    (p .before .before .neighbour-masks .ensures, (p .before .mill-masks .ensures, shows p .placed))
 
 returns-2 : tie.Need-returns-2
 unfolding bestMoveCall
@@ -127,9 +127,9 @@ starts-of-requires c κs =
     let p = counting (c .before .before) in
     let x = placing p in
     let w = known x in
-    let b = stands p .back in (
+    let b = shows p .back in (
       x .before .before .before .binomial-table .ensures,
-      (stands p .placed, omega (arith, w .tablebase .largest-high, w .in-tables .is-table, ap (count 1) b, ap (count 2) b)),
+      (shows p .placed, omega (arith, w .tablebase .largest-high, w .in-tables .is-table, ap (count 1) b, ap (count 2) b)),
     )
 
 void-after-requires : tie.Need-void-after-requires
@@ -140,7 +140,7 @@ void-after-requires c κs =
       x .before .before .before .binomial-table .ensures,
       (
         p .before .before .neighbour-masks .ensures,
-        (p .before .mill-masks .ensures, (stands p .placed, reads-of _ _ _ (started x .args .tablebase .now) (known x) (starts s))),
+        (p .before .mill-masks .ensures, (shows p .placed, reads-of _ _ _ (started x .args .tablebase .now) (known x) (starts s))),
       ),
     )
 
@@ -165,14 +165,14 @@ best-move-requires c κs =
         (
           p .before .mill-masks .ensures,
           (
-            stands p .placed,
+            shows p .placed,
             (
               reads-of _ _ _ (started x .args .tablebase .now) w (starts s),
               (
                 sym (e .before .void-after .ensures) ∙ e .if3 .left,
                 (
                   omega (arith, n .count-moves .ensures, s .before .before .if2 .left),
-                  omega (arith, w .board .counted, ap (count 1) (stands p .back), ap (count 2) (stands p .back)),
+                  omega (arith, w .board .counted, ap (count 1) (shows p .back), ap (count 2) (shows p .back)),
                 ),
               ),
             ),

@@ -19,7 +19,7 @@ use Rattle.refusals.specs.Answers.{accepted}
 use Rattle.morris.specs.LookupCall.{lookupCall}
 use Rattle.refusals.proofs.TablebaseConditions.{AcceptedEntry, accepted-entry, lookup-refused, lookup-decides}
 use Rattle.refusals.proofs.Conditions.{few-points}
-use Rattle.morris.proofs.Positions.{Stands, stands-for}
+use Rattle.morris.proofs.Positions.{Shows, board-shown}
 use Rattle.refusals.proofs.Answering.{answer-refused, answer-accepted}
 use Rattle.morris.proofs.lookup.Statement.{statement}
 use Rattle.morris.proofs.lookup.Tie as tie
@@ -51,19 +51,19 @@ decided : (c : tie.Else1) (t : Bool) → isVoid (entry (started c)) ≡ t
     → refusal (lookupPicks (started c .args .rings) (started c .args .board .now) (started c .args .k) (started c .args .tablebase .now)) ≡ cond t 12 0
 decided c t e = lookup-decides _ _ _ _ (passed-first c) ∙ ap (λ (u : Bool). cond u 12 0) e
 
--- the position stands for the board, so its counts are the board's
-stands : (c : tie.After-position-of) → Stands (started (c .before) .args .rings) (started (c .before) .args .board .now) (c .position-of .result)
-stands c = stands-for _ _ (known (c .before) .board) _ (c .position-of .ensures)
+-- the position shows the board, so its counts are the board's
+shows : (c : tie.After-position-of) → Shows (started (c .before) .args .rings) (started (c .before) .args .board .now) (c .position-of .result)
+shows c = board-shown _ _ (known (c .before) .board) _ (c .position-of .ensures)
 
 mover-is : (c : tie.After-count2) → c .before .count .result ≡ count 1 (started (counting c) .args .board .now)
-mover-is c = c .before .count .ensures ∙ stands (c .before .before) .mover
+mover-is c = c .before .count .ensures ∙ shows (c .before .before) .mover
 
 opponent-is : (c : tie.After-count2) → c .count2 .result ≡ count 2 (started (counting c) .args .board .now)
-opponent-is c = c .count2 .ensures ∙ stands (c .before .before) .opponent
+opponent-is c = c .count2 .ensures ∙ shows (c .before .before) .opponent
 
 -- start and rank together are the board's place
 rank-is : (c : tie.After-rank) → c .rank .result ≡ rank (started (reading c) .args .board .now)
-rank-is c = c .rank .ensures ∙ stands (c .before .before .before .before .before .before) .rank-back
+rank-is c = c .rank .ensures ∙ shows (c .before .before .before .before .before .before) .rank-back
 
 at-place : (c : tie.After-rank)
     → c .before .before .start .result + c .rank .result
@@ -142,7 +142,7 @@ rank-requires : tie.Need-rank-requires
 rank-requires c κs =
     let p = c .before .before .before .before .before in
     let x = p .before in
-    (x .before .before .before .binomial-table .ensures, (few-points _ _ (known x .board), stands p .on))
+    (x .before .before .before .binomial-table .ensures, (few-points _ _ (known x .board), shows p .on))
 
 add-entry : tie.Need-add-entry
 add-entry c = omega (arith, small c)

@@ -13,7 +13,7 @@ use Rattle.refusals.specs.Refusals.{refusal}
 use Rattle.refusals.specs.Conditions.{targetPicks}
 use Rattle.morris.specs.MakeMoveCall.{makeMoveCall, makeMoveTarget}
 use Rattle.refusals.proofs.Conditions.{Accepted, accepted-target, move-refused, move-decides, few-points}
-use Rattle.morris.proofs.Positions.{Stands, stands-for, after-back}
+use Rattle.morris.proofs.Positions.{Shows, board-shown, after-back}
 use Rattle.refusals.proofs.Answering.{turned-back, written}
 use Rattle.morris.proofs.make_move.Statement.{statement}
 use Rattle.morris.proofs.make_move.Tie as tie
@@ -28,7 +28,7 @@ placing c = c .before .before .before
 abbrev testing : tie.After-is-move → tie.After-position-of
 testing c = c .before .before .before
 
--- past the first refusals the target has the board's length, the board is accepted, and its position stands for it
+-- past the first refusals the target has the board's length, the board is accepted, and its position shows it
 passed-target : (c : tie.Else1)
     → 0 ≡ refusal (targetPicks (started c .args .rings) (started c .args .board .now) (length (started c .args .target .now)))
 passed-target c = sym (c .if1 .left) ∙ c .before .of-target .ensures
@@ -39,15 +39,15 @@ room c = accepted-target _ (started c .args .board .now) _ (sym (passed-target c
 board : (c : tie.Else1) → Accepted (started c .args .rings) (started c .args .board .now)
 board c = accepted-target _ _ _ (sym (passed-target c)) .0
 
-stands : (c : tie.After-position-of) → Stands (started (placing c) .args .rings) (started (placing c) .args .board .now) (c .position-of .result)
-stands c = stands-for _ _ (board (placing c)) _ (c .position-of .ensures)
+shows : (c : tie.After-position-of) → Shows (started (placing c) .args .rings) (started (placing c) .args .board .now) (c .position-of .result)
+shows c = board-shown _ _ (board (placing c)) _ (c .position-of .ensures)
 
 -- what was tested is whether the board has the move
 tested : (c : tie.After-is-move)
     → member (started (placing (testing c)) .args .number)
     (listedMoves (started (placing (testing c)) .args .rings) (started (placing (testing c)) .args .board .now))
     ≡ c .is-move .result
-tested c = sym (c .is-move .ensures ∙ ap (member (started (placing (testing c)) .args .number)) (stands (testing c) .moves-back))
+tested c = sym (c .is-move .ensures ∙ ap (member (started (placing (testing c)) .args .number)) (shows (testing c) .moves-back))
 
 of-target-requires : tie.Need-of-target-requires
 of-target-requires c κs = search needs
@@ -72,12 +72,12 @@ position-of-requires c κs = few-points _ _ (board (c .before .before))
 is-move-requires : tie.Need-is-move-requires
 is-move-requires c κs =
     let p = c .before .before in
-    (p .before .before .neighbour-masks .ensures, (p .before .mill-masks .ensures, stands p .placed))
+    (p .before .before .neighbour-masks .ensures, (p .before .mill-masks .ensures, shows p .placed))
 
 after-ply-requires : tie.Need-after-ply-requires
 after-ply-requires c κs =
     let m = c .before in
-    (stands (testing m) .placed, sym (m .is-move .ensures) ∙ c .if2 .taken)
+    (shows (testing m) .placed, sym (m .is-move .ensures) ∙ c .if2 .taken)
 
 write-board-requires : tie.Need-write-board-requires
 write-board-requires c κs =
@@ -99,7 +99,7 @@ returns-2 c =
     let b : List ℕ = a .board .now in
     let e : member (a .number) (listedMoves (a .rings) b) ≡ true = tested m ∙ t .if2 .taken in
     let d : f .after-ply .result ≡ positionOf (afterPly b (a .number)) =
-    f .after-ply .ensures ∙ ap (λ (c : List ℕ). positionOf (afterPly c (a .number))) (stands (testing m) .back) in
+    f .after-ply .ensures ∙ ap (λ (c : List ℕ). positionOf (afterPly c (a .number))) (shows (testing m) .back) in
     written _ _ _ _ _ _
     (sym (move-decides (a .rings) b (length (a .target .now)) (a .number) (passed-target x) ∙ ap (λ (t : Bool). cond (not t) 8 0) e)) refl
     (w .write-board .ensures ∙ ap₂ boardOf (room x) d ∙ after-back (a .rings) b (board x) (a .number) e)

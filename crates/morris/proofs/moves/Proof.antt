@@ -13,7 +13,7 @@ use Rattle.refusals.specs.Refusals.{refusal}
 use Rattle.refusals.specs.Conditions.{boardPicks}
 use Rattle.morris.specs.MovesCall.{movesCall, movesList}
 use Rattle.refusals.proofs.Conditions.{Accepted, accepted-board, short-refused, short-decides, few-points}
-use Rattle.morris.proofs.Positions.{Stands, stands-for}
+use Rattle.morris.proofs.Positions.{Shows, board-shown}
 use Rattle.refusals.proofs.Answering.{turned-back, written}
 use Rattle.morris.proofs.moves.Statement.{statement}
 use Rattle.morris.proofs.moves.Tie as tie
@@ -25,15 +25,15 @@ started c = c .before .before .before .before
 abbrev placing : tie.After-position-of → tie.Else1
 placing c = c .before .before .before
 
--- past the first refusals the board is accepted, and its position stands for it
+-- past the first refusals the board is accepted, and its position shows it
 passed-board : (c : tie.Else1) → 0 ≡ refusal (boardPicks (started c .args .rings) (started c .args .board .now))
 passed-board c = sym (c .if1 .left) ∙ c .before .of-board .ensures
 
 board : (c : tie.Else1) → Accepted (started c .args .rings) (started c .args .board .now)
 board c = accepted-board _ _ (sym (passed-board c))
 
-stands : (c : tie.After-position-of) → Stands (started (placing c) .args .rings) (started (placing c) .args .board .now) (c .position-of .result)
-stands c = stands-for _ _ (board (placing c)) _ (c .position-of .ensures)
+shows : (c : tie.After-position-of) → Shows (started (placing c) .args .rings) (started (placing c) .args .board .now) (c .position-of .result)
+shows c = board-shown _ _ (board (placing c)) _ (c .position-of .ensures)
 
 of-board-requires : tie.Need-of-board-requires
 of-board-requires c κs = search needs
@@ -59,7 +59,7 @@ position-of-requires c κs = few-points _ _ (board (c .before .before))
 count-moves-requires : tie.Need-count-moves-requires
 count-moves-requires c κs =
     let p = c .before .before in
-    (p .before .before .neighbour-masks .ensures, (p .before .mill-masks .ensures, stands p .placed))
+    (p .before .before .neighbour-masks .ensures, (p .before .mill-masks .ensures, shows p .placed))
 
 returns-2 : tie.Need-returns-2
 unfolding movesCall movesList
@@ -69,7 +69,7 @@ returns-2 c =
     let x = placing p in
     let a = started x .args in
     let m = length (listedMoves (a .rings) (a .board .now)) in
-    let short = lt-ltb (length (a .list .now)) m (omega (arith, c .if2 .taken, n .count-moves .ensures, ap length (stands p .moves-back))) in
+    let short = lt-ltb (length (a .list .now)) m (omega (arith, c .if2 .taken, n .count-moves .ensures, ap length (shows p .moves-back))) in
     turned-back _ _ _ _ 7 (λ z. absurd (omega arith))
     (sym (short-decides (a .rings) (a .board .now) (length (a .list .now)) m (passed-board x) ∙ ap (λ (t : Bool). cond t 7 0) short))
 
@@ -78,7 +78,7 @@ list-moves-requires c κs =
     let e = c .before .before .before in
     let n = e .before in
     let p = n .before .before .before in
-    (p .before .before .neighbour-masks .ensures, (p .before .mill-masks .ensures, (stands p .placed, omega (arith, e .if2 .left, n .count-moves .ensures))))
+    (p .before .before .neighbour-masks .ensures, (p .before .mill-masks .ensures, (shows p .placed, omega (arith, e .if2 .left, n .count-moves .ensures))))
 
 same-length : tie.Need-same-length
 same-length c = search needs
@@ -92,11 +92,11 @@ returns-3 c =
     let x = placing p in
     let a = started x .args in
     let m = length (listedMoves (a .rings) (a .board .now)) in
-    let fits = le-ltb (length (a .list .now)) m (omega (arith, e .if2 .left, n .count-moves .ensures, ap length (stands p .moves-back))) in
+    let fits = le-ltb (length (a .list .now)) m (omega (arith, e .if2 .left, n .count-moves .ensures, ap length (shows p .moves-back))) in
     written _ _ _ _ _ _
     (sym (short-decides (a .rings) (a .board .now) (length (a .list .now)) m (passed-board x) ∙ ap (λ (t : Bool). cond t 7 0) fits))
-    (ap (λ (k : ℕ). k ∷ []) (n .count-moves .ensures ∙ ap length (stands p .moves-back)))
-    (c .before .before .list-moves .ensures ∙ ap (sets (a .list .now) 0) (stands p .moves-back))
+    (ap (λ (k : ℕ). k ∷ []) (n .count-moves .ensures ∙ ap length (shows p .moves-back)))
+    (c .before .before .list-moves .ensures ∙ ap (sets (a .list .now) 0) (shows p .moves-back))
 
 pub moves-spec : {M : Type 1} → statement M
 moves-spec =

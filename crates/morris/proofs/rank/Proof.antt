@@ -9,7 +9,7 @@ use Rattle.refusals.specs.Conditions.{boardPicks}
 use Rattle.refusals.specs.Answers.{accepted}
 use Rattle.morris.specs.RankCall.{rankCall}
 use Rattle.refusals.proofs.Conditions.{Accepted, accepted-board, few-points}
-use Rattle.morris.proofs.Positions.{Stands, stands-for}
+use Rattle.morris.proofs.Positions.{Shows, board-shown}
 use Rattle.refusals.proofs.Answering.{answer-refused, answer-accepted}
 use Rattle.morris.proofs.rank.Statement.{statement}
 use Rattle.morris.proofs.rank.Tie as tie
@@ -18,13 +18,13 @@ use Rattle.morris.proofs.rank.Tie as tie
 abbrev started : tie.Else1 → tie.Start
 started c = c .before .before .before
 
--- past them the board is accepted, and its position stands for it
+-- past them the board is accepted, and its position shows it
 board : (c : tie.Else1) → Accepted (started c .args .rings) (started c .args .board .now)
 board c = accepted-board _ _ (sym (c .before .of-board .ensures) ∙ c .if1 .left)
 
-stands : (c : tie.After-position-of)
-    → Stands (started (c .before .before) .args .rings) (started (c .before .before) .args .board .now) (c .position-of .result)
-stands c = stands-for _ _ (board (c .before .before)) _ (c .position-of .ensures)
+shows : (c : tie.After-position-of)
+    → Shows (started (c .before .before) .args .rings) (started (c .before .before) .args .board .now) (c .position-of .result)
+shows c = board-shown _ _ (board (c .before .before)) _ (c .position-of .ensures)
 
 of-board-requires : tie.Need-of-board-requires
 of-board-requires c κs = search needs
@@ -42,7 +42,7 @@ position-of-requires c κs = few-points _ _ (board (c .before))
 rank-requires : tie.Need-rank-requires
 rank-requires c κs =
     let p = c .before in
-    (p .before .binomial-table .ensures, (few-points _ _ (board (p .before .before)), stands p .on))
+    (p .before .binomial-table .ensures, (few-points _ _ (board (p .before .before)), shows p .on))
 
 returns-2 : tie.Need-returns-2
 unfolding rankCall
@@ -50,7 +50,7 @@ returns-2 c =
     let p = c .before .before in
     let x = p .before .before in
     let a = started x .args in
-    ap (λ (r : ℕ). accepted (r ∷ [])) (c .rank .ensures ∙ stands p .rank-back)
+    ap (λ (r : ℕ). accepted (r ∷ [])) (c .rank .ensures ∙ shows p .rank-back)
     ∙ answer-accepted (refusal (boardPicks (a .rings) (a .board .now))) (Rank·rank (a .board .now) ∷ []) (sym (x .if1 .left) ∙ x .before .of-board .ensures)
 
 pub rank-spec : {M : Type 1} → statement M

@@ -1,15 +1,15 @@
 -- `parts::finding::find` meets its contract. The invariant: the value does not occur in what is passed. Assumes nothing.
-use mathlib.Core.Path.{_≡_, sym, subst, _∙_}
+use mathlib.Core.Path.{_≡_, subst}
 use Prim.Native.Nat.{ℕ, _-_, _≤_}
 use native.Mathlib.Omega.{arith}
-use borrow.Author.Tests.{ne-eqb}
-use Rattle.parts.specs.Finding.{Passed}
-use Rattle.parts.proofs.Occurs.{occurs-one, passed-more, first-here, first-none}
+use borrow.Author.Tests.{eq-eqb, ne-eqb}
+use Rattle.parts.specs.Finding.{Passed, isAt}
+use Rattle.parts.proofs.Firsts.{passed-one, first-here, first-none}
 use Rattle.parts.proofs.finding.find.Statement.{statement}
 use Rattle.parts.proofs.finding.find.Tie as tie
 
 abbrev Inv-loop : tie.InvT-loop
-Inv-loop tablebase from end v i₀ i = Passed v tablebase from end i
+Inv-loop tablebase from end v i₀ i = Passed (isAt v tablebase) from end i
 
 abbrev μ-loop : tie.MeasureT-loop
 μ-loop tablebase from end v i₀ i = end - i
@@ -27,7 +27,7 @@ shared-slice-read-if1 : tie.Need-shared-slice-read-if1 Inv-loop μ-loop
 shared-slice-read-if1 c = omega arith
 
 returns : tie.Need-returns Inv-loop μ-loop
-returns c = first-here (c .before .before .before .loop .inv) (c .if1 .taken)
+returns c = first-here (c .before .before .before .loop .inv) (eq-eqb _ _ (c .if1 .taken))
 
 add-i : tie.Need-add-i Inv-loop μ-loop
 add-i c = omega arith
@@ -38,16 +38,14 @@ loop-less c = omega arith
 loop-again : tie.Need-loop-again Inv-loop μ-loop
 loop-again c =
     let x = c .before .before .before in
-    let a = x .before .before .before .args in
-    passed-more 1 (x .loop .inv) (sym (occurs-one (a .v) (a .tablebase .now) (x .loop .i)) ∙ ne-eqb _ (a .v) (c .if1 .left))
-    (omega (arith, c .before .before .loop-test .taken))
+    passed-one (x .loop .inv) (ne-eqb _ _ (c .if1 .left)) (c .before .before .loop-test .taken)
 
 returns-2 : tie.Need-returns-2 Inv-loop μ-loop
 returns-2 c =
     let x = c .before in
     let a = x .before .before .before .args in
     let e : x .loop .i ≡ a .end = omega (arith, c .loop-test .left, x .loop .inv .high) in
-    first-none (subst (λ (i : ℕ). Passed (a .v) (a .tablebase .now) (a .from) (a .end) i) e (x .loop .inv))
+    first-none (subst (λ (i : ℕ). Passed (isAt (a .v) (a .tablebase .now)) (a .from) (a .end) i) e (x .loop .inv)) (omega arith)
 
 pub find-spec : {M : Type 1} → statement M
 find-spec =

@@ -2,19 +2,20 @@
 use mathlib.Core.Path.{sym, _∙_}
 use Prim.Native.Nat.{_-_, _≤_}
 use native.Mathlib.Omega.{arith}
-use Rattle.parts.specs.Finding.{Passed}
-use Rattle.parts.proofs.Occurs.{passed-none, passed-more}
+use Rattle.parts.specs.Finding.{Passed, isAt}
+use Rattle.parts.proofs.Occurs.{occurs-none}
+use Rattle.parts.proofs.Firsts.{passed-none, passed-more}
 use Rattle.parts.proofs.finding.pass.Statement.{statement}
 use Rattle.parts.proofs.finding.pass.Tie as tie
 
 abbrev Inv-loop : tie.InvT-loop
-Inv-loop tablebase from end v i₀ i = Passed v tablebase from end i
+Inv-loop tablebase from end v i₀ i = Passed (isAt v tablebase) from end i
 
 abbrev μ-loop : tie.MeasureT-loop
 μ-loop tablebase from end v i₀ i = end - i
 
 loop-holds : tie.Need-loop-holds Inv-loop μ-loop
-loop-holds c = let s = c .before in passed-none (s .args .v) (s .args .from) (s .args .end) (s .args .tablebase .now) (s .pre .0)
+loop-holds c = let s = c .before in passed-none (isAt (s .args .v) (s .args .tablebase .now)) (s .args .from) (s .args .end) (s .pre .0)
 
 sub-loop : tie.Need-sub-loop Inv-loop μ-loop
 sub-loop c = omega (arith, c .loop .inv .high)
@@ -34,7 +35,9 @@ loop-less c = omega (arith, c .before .before .loop-test .taken)
 loop-again : tie.Need-loop-again Inv-loop μ-loop
 loop-again c =
     let x = c .before .before .before in
-    passed-more 16 (x .loop .inv) (sym (c .before .in-sixteen .ensures) ∙ c .if1 .left) (omega (arith, c .before .before .loop-test .taken, x .loop .inv .high))
+    let a = x .before .before .args in
+    passed-more 16 (x .loop .inv) (occurs-none (a .v) (a .tablebase .now) (x .loop .i) 16 (sym (c .before .in-sixteen .ensures) ∙ c .if1 .left))
+    (omega (arith, c .before .before .loop-test .taken, x .loop .inv .high))
 
 returns-2 : tie.Need-returns-2 Inv-loop μ-loop
 returns-2 c = c .before .loop .inv

@@ -3,7 +3,7 @@ use mathlib.Core.Path.{_≡_, subst}
 use Prim.Native.Nat.{ℕ, _+_, _-_}
 use native.Mathlib.Omega.{arith}
 use Rattle.game.specs.Game.{voidEntry}
-use Rattle.parts.specs.Finding.{First}
+use Rattle.parts.specs.Finding.{First, isAt}
 use Rattle.sweeping.proofs.Sought.{mark-first}
 use borrow.Author.Needs.{needs}
 use Rattle.sweeping.proofs.judging.find_mark.Statement.{statement}
@@ -25,7 +25,7 @@ returns c =
     let t = a .table in
     let e : t .own .end ≡ t .own .start + (t .own .end - t .own .start) = omega (arith, s .pre .0) in
     mark-first t (a .tablebase .now) (a .r) (t .own .end - t .own .start) (c .find .result)
-    (subst (λ (n : ℕ). First voidEntry (a .tablebase .now) (t .own .start + a .r) n (c .find .result)) e (c .find .ensures))
+    (subst (λ (n : ℕ). First (isAt voidEntry (a .tablebase .now)) (t .own .start + a .r) n (c .find .result)) e (c .find .ensures))
 
 pub find-mark-spec : {M : Type 1} → statement M
 find-mark-spec = tie.close (tie.spec add-find find-requires sub-result returns)
