@@ -1,7 +1,7 @@
 -- Ranking a board stone by stone: what a stone adds is one product of two binomials, and the vacant points between two stones add nothing.
 -- Assumes nothing.
 use mathlib.Core.Path.{_≡_, refl, sym, ap, _∙_, subst}
-use mathlib.Core.Bool.{Bool, true, false}
+use mathlib.Core.Bool.{Bool, true, false, cond}
 use mathlib.Core.List.{List, [], _∷_}
 use Prim.Native.Nat.{ℕ, zero, suc, _+_, _-_, _*_, _≤_, _<_}
 use native.Mathlib.Numerals.{add-one}
@@ -17,20 +17,19 @@ use Rattle.sizes.specs.Binomial.{binomial}
 use Rattle.sizes.proofs.Products.{size-chosen, size-low}
 use Rattle.ranking.specs.Rank.{rank}
 use Rattle.ranking.specs.Unrank.{below}
-use Rattle.ranking.specs.Choice.{choice}
 use Rattle.ranking.proofs.Steps.{Ranking, ranking-none, ranking-more}
 
 -- what a stone at p adds, with s stones up to it of which o are the opponent's
 pub below-stone : (x : Bool) (p s o : ℕ) → o ≤ s
-    → binomial p (choice x o s) * binomial (choice x (p + 1 - o) s) (s - o) ≡ below (suc (digit x)) p (s - o) o
+    → binomial p (cond x o s) * binomial (cond x (p + 1 - o) s) (s - o) ≡ below (suc (digit x)) p (s - o) o
 below-stone true p s o h = sym (size-low p (s - o) o)
 below-stone false p s o h =
     let e : s - o + o ≡ s = omega arith in
     sym (size-chosen p (s - o) o ∙ ap (λ (k : ℕ). binomial p k * binomial k (s - o)) e)
 
-pub choice-le : (x : Bool) (a b n : ℕ) → a ≤ n → b ≤ n → choice x a b ≤ n
-choice-le true a b n h l = h
-choice-le false a b n h l = l
+pub cond-le : (x : Bool) (a b n : ℕ) → a ≤ n → b ≤ n → cond x a b ≤ n
+cond-le true a b n h l = h
+cond-le false a b n h l = l
 
 -- no more stones than points
 pub ranking-few : {b : List ℕ} {i m o r : ℕ} → Ranking b i m o r → Values b → m + o ≤ i

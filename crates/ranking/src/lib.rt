@@ -1,12 +1,12 @@
 // The rank of a position, and the position of a rank.
 ghost use mathlib.Core.Path.{_≡_};
+ghost use mathlib.Core.Bool.{cond};
 ghost use Prim.Native.Nat.{suc, _+_, _-_, _≤_, _<_};
 ghost use Rattle.board.specs.Board.{digit, boardOf, positionOf, OnBoard};
 ghost use Rattle.sizes.specs.Size.{size};
 ghost use Rattle.sizes.specs.Binomial.{BinomialTable};
 ghost use Rattle.ranking.specs.Rank.{rank};
 ghost use Rattle.ranking.specs.Unrank.{below, topValue, unrank};
-ghost use Rattle.ranking.specs.Choice.{choice};
 
 mod inserting;
 mod stepping;
@@ -40,7 +40,7 @@ fn below(binomials: &[u32; 625], x: u8, n: usize, m: usize, o: usize) -> usize
 
 // One of two numbers. Short enough for a conditional move: a branch on whose stone it is would be mispredicted half the time.
 fn choose(test: bool, a: usize, b: usize) -> usize
-    ensures { λ r. ⌜ r ≡ choice test a b ⌝ }
+    ensures { λ r. ⌜ r ≡ cond test a b ⌝ }
 {
     if test {
         return a;

@@ -6,7 +6,7 @@ use native.Mathlib.Omega.{arith}
 use borrow.Author.Needs.{needs}
 use Rattle.sizes.specs.Binomial.{binomial}
 use Rattle.sizes.proofs.Binomials.{binomial-small}
-use Rattle.ranking.proofs.Stones.{below-stone, choice-le}
+use Rattle.ranking.proofs.Stones.{below-stone, cond-le}
 use Rattle.ranking.proofs.contribution.Statement.{statement}
 use Rattle.ranking.proofs.contribution.Tie as tie
 
@@ -17,7 +17,7 @@ choose-requires c κs = search needs
 column-low : (c : tie.After-choose) → c .choose .result ≤ 24
 column-low c =
     let a = c .before .args in
-    omega (arith, c .choose .ensures, choice-le (a .theirs) (a .o) (a .stones) 24 (omega arith) (omega arith))
+    omega (arith, c .choose .ensures, cond-le (a .theirs) (a .o) (a .stones) 24 (omega arith) (omega arith))
 
 binomial-requires : tie.Need-binomial-requires
 binomial-requires c κs = (c .before .pre .0, omega (arith, column-low c))
@@ -37,7 +37,7 @@ sub-binomial c = search needs
 row-low : (c : tie.After-choose2) → c .choose2 .result ≤ 24
 row-low c =
     let a = c .before .before .before .args in
-    omega (arith, c .choose2 .ensures, choice-le (a .theirs) (a .p + 1 - a .o) (a .stones) 24 (omega arith) (omega arith))
+    omega (arith, c .choose2 .ensures, cond-le (a .theirs) (a .p + 1 - a .o) (a .stones) 24 (omega arith) (omega arith))
 
 binomial-requires-2 : tie.Need-binomial-requires-2
 binomial-requires-2 c κs = (c .before .before .before .pre .0, omega (arith, row-low c))
