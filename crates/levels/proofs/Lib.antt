@@ -4,5 +4,7 @@ pub mod Sources
 pub mod Views
 pub mod Written
 pub mod Judging
+pub mod JudgedOne
 pub mod LevelMarks
+pub mod MarkedImages
 pub mod ClassLevels

@@ -135,7 +135,9 @@ module _ (rings k m o : ℕ) (pair : Pair rings k m o) where
             in-q = subst (λ (c : List ℕ). InPair rings m o c) e (own g (omega arith))
 
             fits : place rings k (image rings n b) < length (after n)
-            fits = omega (arith, images-length rings from b v now n, room, place-within rings k (image rings n b) (stands-own rings k m o pair (image rings n b) (own n h)))
+            fits =
+                let s = stands-own rings k m o pair (image rings n b) (own n h) in
+                omega (arith, images-length rings from b v now n, room, place-within rings k (image rings n b) s)
 
             go : (image rings n b ≡ q) ⊎ (image rings n b ≡ q → ⊥) → Dec (g ≡ n) → (Among n q → entryAt rings k (after n) q ≡ v)
                 → entryAt rings k (after (suc n)) q ≡ v
