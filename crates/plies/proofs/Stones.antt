@@ -10,7 +10,7 @@ use Rattle.lists.specs.Lists.{each}
 use Rattle.lists.proofs.Lengths.{each-le}
 use Rattle.sets.specs.Sets.{bit, members, elements, setFrom}
 use Rattle.sets.proofs.Laws.{members-le}
-use Rattle.sets.proofs.Elements.{elements-from, length-elements, from-bit}
+use Rattle.sets.proofs.Elements.{from-lt, elements-from, length-elements, from-bit}
 use Rattle.sets.proofs.Passing.{given}
 use Rattle.board.specs.declared.position.Position.{Position}
 use Rattle.board.specs.Board.{boardOf}
@@ -55,6 +55,9 @@ module _ (rings : ℕ) (small : rings ≤ 3) (b : List ℕ) where
   pub elements-targets : (from : ℕ) → elements 32 (setFrom (targets rings b from)) ≡ targets rings b from
   elements-targets from =
       elements-from 32 (targets rings b from) (targets-rising rings b from) (λ to m. omega (arith, target-vacant rings b from to m .0))
+
+  pub targets-fit : (from : ℕ) → setFrom (targets rings b from) < 2 ^ 32
+  targets-fit from = from-lt 32 (targets rings b from) (λ to m. omega (arith, target-vacant rings b from to m .0))
 
 module _ (rings : ℕ) (position : Position) (placed : Placed rings position) where
   abbrev board : List ℕ

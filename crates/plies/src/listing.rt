@@ -9,8 +9,7 @@ ghost use Rattle.board.specs.Board.{boardOf};
 ghost use Rattle.rules.specs.Ply.{listedFrom, listedMoves};
 ghost use Rattle.plies.specs.Positions.{Playable, Vacant};
 use super::choices;
-use super::making::FROM;
-use super::making::TO;
+use super::making::slide_number;
 
 // How many moves one stone has to the points of a set.
 fn count_stone(
@@ -87,7 +86,7 @@ fn list_stone(
     while left != 0 {
         let next = sets::take_lowest(left);
         let removals = choices::removals(rings, masks, position, from, next.lowest);
-        k = list_removals(FROM * from + TO * next.lowest, removals, list, k);
+        k = list_removals(slide_number(from, next.lowest), removals, list, k);
         left = next.rest;
     }
     k

@@ -1,7 +1,7 @@
 // A move made: whether a number is a listed move, and the position after it.
 ghost use mathlib.Core.Path.{_≡_};
 ghost use mathlib.Core.Bool.{true};
-ghost use Prim.Native.Nat.{_*_};
+ghost use Prim.Native.Nat.{_+_, _*_, _<_};
 ghost use Rattle.lists.specs.Lists.{member};
 ghost use Rattle.board.specs.Board.{positionOf, boardOf};
 ghost use Rattle.rules.specs.Ply.{afterPly, listedMoves};
@@ -9,9 +9,17 @@ ghost use Rattle.plies.specs.Positions.{Placed, Playable};
 use super::choices;
 
 // A move number is FROM × from + TO × to + removed, where to and removed are below TO.
-pub const FROM: usize = 1024;
+const FROM: usize = 1024;
 
-pub const TO: usize = 32;
+const TO: usize = 32;
+
+// The number of a slide: a move adds what it removes.
+pub fn slide_number(from: usize, to: usize) -> usize
+    requires { ⌜ (from < 24) × (to < 24) ⌝ }
+    ensures { λ r. ⌜ r ≡ 1024 * from + 32 * to ⌝ }
+{
+    FROM * from + TO * to
+}
 
 // Whether a number is one of a position's moves: its stone, its target and its removal are each tested.
 pub fn is_move(rings: usize, masks: &[u32; 72], position: board::Position, number: usize) -> bool

@@ -1,4 +1,4 @@
--- A stone lifted to go to any of its targets: the position without it, the sides' names changed, and the board once it is put down. Assumes nothing.
+-- The moves of a slide; a stone lifted to go to any of its targets: the position without it, the sides' names changed, and the board once it is put down. Assumes nothing.
 use mathlib.Core.Path.{_≡_, refl, sym, ap, ap₂, subst, _∙_}
 use mathlib.Core.Bool.{Bool, true, false}
 use mathlib.Core.List.{List, [], _∷_, List·Memᴰ·eq-of-singleton}
@@ -7,7 +7,7 @@ use Prim.Native.Nat.{ℕ, _+_, _*_, _^_, _<_}
 use native.Mathlib.Omega.{arith}
 use lib.ListN.{set}
 use Rattle.lists.specs.Lists.{any, member}
-use Rattle.sets.specs.Sets.{bit, with, without, elements}
+use Rattle.sets.specs.Sets.{bit, with, without, elements, setFrom}
 use Rattle.sets.proofs.Laws.{bit-cases, bit-without-other, without-absent}
 use Rattle.sets.proofs.Elements.{bit-low, from-one, elements-from}
 use Rattle.board.specs.declared.position.Position.{Position}
@@ -17,12 +17,14 @@ use Rattle.board.proofs.OneToOne.{vacant-at}
 use Rattle.ranking.specs.declared.inserting.Insertion.{Insertion}
 use Rattle.ranking.specs.Inserting.{Inserting, Vacant}
 use Rattle.ranking.proofs.Puts.{take-mover-on, put-stone-board}
-use Rattle.rules.specs.Ply.{noRemoval, removedOf, moveNumber, listedMoves, afterPly}
+use Rattle.rules.specs.Ply.{noRemoval, removedOf, moveNumber, targets, slide, removable, removals, listedMoves, afterPly}
 use Rattle.rules.proofs.Leads.{MoverLeft, Parts, parts-of}
 use Rattle.plies.specs.Positions.{Placed, Slide}
 use Rattle.plies.proofs.OnPositions.{opponent-small}
 use Rattle.plies.proofs.After.{after-leads, after-board}
-use Rattle.plies.proofs.Numbers.{after-sets}
+use Rattle.plies.proofs.Numbers.{number-listed, after-sets}
+use Rattle.probing.specs.declared.asking.Jump.{Jump}
+use Rattle.probing.specs.Questions.{Removing}
 use Rattle.probing.specs.Jumping.{Jumping}
 
 -- nothing but 31
@@ -36,6 +38,17 @@ any-one f x = go (f x)
     go : (b : Bool) → elim b [ true ↦ true | false ↦ false ] ≡ b
     go true = refl
     go false = refl
+
+-- the moves of a slide by their removals, where the slide has its number
+pub removing : (rings : ℕ) (position : Position) → Placed rings position → (from to : ℕ) → bit (position .mover) from ≡ 1
+    → bit (setFrom (targets rings (boardOf (8 * rings) position) from)) to ≡ 1 → (from < 24) × (to < 24)
+    → (taken : ℕ) → taken ≡ setFrom (removals (λ n b. removable n b) rings (slide (boardOf (8 * rings) position) from to) to)
+    → (n : ℕ) → n ≡ 1024 * from + 32 * to → Removing rings position n taken
+removing rings position placed from to own target low taken e n d = record {
+  small = omega (arith, low, d);
+  listed = λ r b. ap (λ (k : ℕ). member (k + r) (listedMoves rings (boardOf (8 * rings) position))) d
+      ∙ number-listed rings position placed from to r own target (sym (ap (λ (x : ℕ). bit x r) e) ∙ b);
+}
 
 abbrev sides : ℕ → ℕ → Position
 sides m o = record { mover = m; opponent = o }
@@ -100,12 +113,12 @@ module _ (rings : ℕ) (position : Position) (placed : Placed rings position) (f
         go (inl q) = q .1
         go (inr q) = absurd (omega (arith, q .0, parts .removed-is))
 
-  pub jumping : (to : ℕ) → Slide rings position from to → (walk : Insertion) → walk .at ≡ to → Inserting (boardOf (8 * rings) lifted) true walk
-      → Jumping rings position lifted walk (1024 * from + 32 * to)
-  jumping to s walk e w = record {
-    placed = lifted-placed;
-    vacant = subst (λ (p : ℕ). Vacant (boardOf (8 * rings) lifted) p) (sym e) (lifted-vacant to s);
-    inserting = w;
-    leads = λ listed. ap (λ (p : ℕ). set (boardOf (8 * rings) lifted) p 2) e ∙ jumped to s listed;
-    stays = λ listed. jumped-stays to s listed;
+  pub jumping : (to : ℕ) → Slide rings position from to → (jump : Jump) → jump .lifted ≡ lifted → jump .walk .at ≡ to
+      → Inserting (boardOf (8 * rings) lifted) true (jump .walk) → jump .slide ≡ 1024 * from + 32 * to → Jumping rings position jump
+  jumping to s jump l e w n = record {
+    placed = rw l lifted-placed;
+    vacant = rw (l, e) (lifted-vacant to s);
+    inserting = rw l w;
+    leads = rw (l, n, e) (λ listed. jumped to s listed);
+    stays = rw n (λ listed. jumped-stays to s listed);
   }

@@ -7,16 +7,16 @@ use lib.ListN.{set}
 use Rattle.lists.specs.Lists.{member}
 use Rattle.board.specs.declared.position.Position.{Position}
 use Rattle.board.specs.Board.{count, boardOf}
-use Rattle.ranking.specs.declared.inserting.Insertion.{Insertion}
 use Rattle.ranking.specs.Inserting.{Inserting, Vacant}
 use Rattle.rules.specs.Ply.{noRemoval, listedMoves, afterPly}
 use Rattle.plies.specs.Positions.{Placed}
+use Rattle.probing.specs.declared.asking.Jump.{Jump}
 
-pub record Jumping (rings : ℕ) (position lifted : Position) (walk : Insertion) (slide : ℕ) : Type 0 where
-  pub placed : Placed rings lifted
-  pub vacant : Vacant (boardOf (8 * rings) lifted) (walk .at)
-  pub inserting : Inserting (boardOf (8 * rings) lifted) true walk
-  pub leads : member (slide + noRemoval) (listedMoves rings (boardOf (8 * rings) position)) ≡ true
-      → set (boardOf (8 * rings) lifted) (walk .at) 2 ≡ afterPly (boardOf (8 * rings) position) (slide + noRemoval)
-  pub stays : member (slide + noRemoval) (listedMoves rings (boardOf (8 * rings) position)) ≡ true
-      → count 1 (afterPly (boardOf (8 * rings) position) (slide + noRemoval)) ≡ count 2 (boardOf (8 * rings) position)
+pub record Jumping (rings : ℕ) (position : Position) (jump : Jump) : Type 0 where
+  pub placed : Placed rings (jump .lifted)
+  pub vacant : Vacant (boardOf (8 * rings) (jump .lifted)) (jump .walk .at)
+  pub inserting : Inserting (boardOf (8 * rings) (jump .lifted)) true (jump .walk)
+  pub leads : member (jump .slide + noRemoval) (listedMoves rings (boardOf (8 * rings) position)) ≡ true
+      → set (boardOf (8 * rings) (jump .lifted)) (jump .walk .at) 2 ≡ afterPly (boardOf (8 * rings) position) (jump .slide + noRemoval)
+  pub stays : member (jump .slide + noRemoval) (listedMoves rings (boardOf (8 * rings) position)) ≡ true
+      → count 1 (afterPly (boardOf (8 * rings) position) (jump .slide + noRemoval)) ≡ count 2 (boardOf (8 * rings) position)

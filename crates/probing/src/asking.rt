@@ -4,16 +4,15 @@ ghost use mathlib.Core.Bool.{true};
 ghost use Prim.Native.Nat.{ℕ, _+_, _*_, _<_};
 ghost use lib.ListN.{length};
 ghost use Rattle.lists.specs.Lists.{any, member};
-ghost use Rattle.sets.specs.Sets.{bit, elements, setFrom};
+ghost use Rattle.sets.specs.Sets.{elements};
 ghost use Rattle.board.specs.Board.{boardOf};
-ghost use Rattle.sizes.specs.Binomial.{BinomialTable};
 ghost use Rattle.rules.specs.Ply.{targets, afterPly, removable, listedFrom, listedMoves, successors};
-ghost use Rattle.plies.specs.Masks.{NeighbourMasks, MillMasks};
-ghost use Rattle.plies.specs.Positions.{Placed};
+ghost use Rattle.plies.specs.Masks.{Masks};
 ghost use Rattle.probing.specs.Probes.{key, asked};
-ghost use Rattle.probing.specs.Questions.{Readable, answers};
+ghost use Rattle.probing.specs.Questions.{Probing, Movable, Removing, answers};
 ghost use Rattle.probing.specs.Jumping.{Jumping};
 use super::entries;
+use super::entries::Starts;
 
 // Entries below are depths; this one is void, the next draw.
 pub const VOID: u32 = parts::VOID as u32;
@@ -23,10 +22,22 @@ pub const NOT_WON: u32 = 65536;
 
 // The tables of the successors, by where they start, and the keys that are asked for: from low on and below high.
 pub struct Question {
-    pub same: usize,
-    pub fewer: usize,
+    pub starts: Starts,
     pub low: u32,
     pub high: u32,
+}
+
+// One of the mover's stones, and where it may go.
+pub struct Stone {
+    pub from: usize,
+    pub tos: u32,
+}
+
+// A slide by its number, the position after its stone is lifted, and a walk that has reached its target.
+pub struct Jump {
+    pub slide: usize,
+    pub lifted: board::Position,
+    pub walk: ranking::Insertion,
 }
 
 // The key of an entry.
@@ -57,9 +68,7 @@ fn leads(
     position: board::Position,
     number: usize,
 ) -> bool
-    requires { ⌜ BinomialTable (now binomials) ⌝ }
-    requires { ⌜ Placed rings position ⌝ }
-    requires { ⌜ Readable (length (now tablebase)) rings question (boardOf (8 * rings) position) ⌝ }
+    requires { ⌜ Probing (now binomials) (length (now tablebase)) rings (question .starts) position ⌝ }
     requires { ⌜ member number (listedMoves rings (boardOf (8 * rings) position)) ≡ true ⌝ }
     ensures { λ r. ⌜ r ≡ answers (now (tablebase .entry)) question (boardOf (8 * rings) position) (afterPly (boardOf (8 * rings) position) number) ⌝ }
 {
@@ -67,8 +76,7 @@ fn leads(
         tablebase,
         binomials,
         rings,
-        question.same,
-        question.fewer,
+        question.starts,
         position,
         number,
     );
@@ -85,28 +93,25 @@ fn some_removal(
     slide: usize,
     removals: u32,
 ) -> bool
-    requires { ⌜ BinomialTable (now binomials) ⌝ }
-    requires { ⌜ Placed rings position ⌝ }
-    requires { ⌜ Readable (length (now tablebase)) rings question (boardOf (8 * rings) position) ⌝ }
-    requires { ⌜ (slide + 31 < 65536)
-        × ((r : ℕ) → bit removals r ≡ 1 → member (slide + r) (listedMoves rings (boardOf (8 * rings) position)) ≡ true) ⌝ }
+    requires { ⌜ Probing (now binomials) (length (now tablebase)) rings (question .starts) position ⌝ }
+    requires { ⌜ Removing rings position slide removals ⌝ }
     ensures { λ r. ⌜ r ≡ any (λ p. answers (now (tablebase .entry)) question (boardOf (8 * rings) position)
         (afterPly (boardOf (8 * rings) position) (slide + p))) (elements 32 removals) ⌝ }
 {
     let mut left = removals;
     while left != 0 {
-        let removed = sets::lowest(left);
+        let next = sets::take_lowest(left);
         if leads(
             tablebase,
             binomials,
             rings,
             question,
             position,
-            slide + removed,
+            slide + next.lowest,
         ) {
             return true;
         }
-        left = sets::without(left, removed);
+        left = next.rest;
     }
     false
 }
@@ -115,37 +120,34 @@ fn some_removal(
 fn some_slide(
     tablebase: &[u16],
     binomials: &[u32; 625],
-    mills: &[u32; 48],
+    masks: &[u32; 72],
     rings: usize,
     question: Question,
     position: board::Position,
-    from: usize,
-    tos: u32,
+    stone: Stone,
 ) -> bool
-    requires { ⌜ BinomialTable (now binomials) ⌝ }
-    requires { ⌜ MillMasks rings (now mills) ⌝ }
-    requires { ⌜ Placed rings position ⌝ }
-    requires { ⌜ Readable (length (now tablebase)) rings question (boardOf (8 * rings) position) ⌝ }
-    requires { ⌜ (bit (position .mover) from ≡ 1) × (tos ≡ setFrom (targets rings (boardOf (8 * rings) position) from)) ⌝ }
+    requires { ⌜ Probing (now binomials) (length (now tablebase)) rings (question .starts) position ⌝ }
+    requires { ⌜ Movable rings (now masks) position stone ⌝ }
     ensures { λ r. ⌜ r ≡ any (λ m. answers (now (tablebase .entry)) question (boardOf (8 * rings) position)
-        (afterPly (boardOf (8 * rings) position) m)) (listedFrom rings (boardOf (8 * rings) position) from (targets rings (boardOf (8 * rings) position) from)) ⌝ }
+        (afterPly (boardOf (8 * rings) position) m))
+        (listedFrom rings (boardOf (8 * rings) position) (stone .from) (targets rings (boardOf (8 * rings) position) (stone .from))) ⌝ }
 {
-    let mut left = tos;
+    let mut left = stone.tos;
     while left != 0 {
-        let to = sets::lowest(left);
-        let removals = plies::removals(rings, mills, position, from, to);
+        let next = sets::take_lowest(left);
+        let removals = plies::removals(rings, masks, position, stone.from, next.lowest);
         if some_removal(
             tablebase,
             binomials,
             rings,
             question,
             position,
-            plies::FROM * from + plies::TO * to,
+            plies::slide_number(stone.from, next.lowest),
             removals,
         ) {
             return true;
         }
-        left = sets::without(left, to);
+        left = next.rest;
     }
     false
 }
@@ -160,23 +162,18 @@ fn some_at(
     rings: usize,
     question: Question,
     position: board::Position,
-    slide: usize,
+    jump: Jump,
     removals: u32,
-    lifted: board::Position,
-    walk: ranking::Insertion,
 ) -> bool
-    requires { ⌜ BinomialTable (now binomials) ⌝ }
-    requires { ⌜ Placed rings position ⌝ }
-    requires { ⌜ Readable (length (now tablebase)) rings question (boardOf (8 * rings) position) ⌝ }
-    requires { ⌜ (slide + 31 < 65536)
-        × ((r : ℕ) → bit removals r ≡ 1 → member (slide + r) (listedMoves rings (boardOf (8 * rings) position)) ≡ true) ⌝ }
-    requires { ⌜ Jumping rings position lifted walk slide ⌝ }
+    requires { ⌜ Probing (now binomials) (length (now tablebase)) rings (question .starts) position ⌝ }
+    requires { ⌜ Removing rings position (jump .slide) removals × Jumping rings position jump ⌝ }
     ensures { λ r. ⌜ r ≡ any (λ p. answers (now (tablebase .entry)) question (boardOf (8 * rings) position)
-        (afterPly (boardOf (8 * rings) position) (slide + p))) (elements 32 removals) ⌝ }
+        (afterPly (boardOf (8 * rings) position) (jump .slide + p))) (elements 32 removals) ⌝ }
 {
     if removals == NO_REMOVAL {
-        let r = ranking::rank_at(binomials, 8 * rings, lifted, true, walk);
-        return asked(question, tablebase[question.same + r]);
+        let r = ranking::rank_at(binomials, 8 * rings, jump.lifted, true, jump.walk);
+        let starts = question.starts;
+        return asked(question, tablebase[starts.same + r]);
     }
     some_removal(
         tablebase,
@@ -184,7 +181,7 @@ fn some_at(
         rings,
         question,
         position,
-        slide,
+        jump.slide,
         removals,
     )
 }
@@ -193,46 +190,44 @@ fn some_at(
 fn some_jump(
     tablebase: &[u16],
     binomials: &[u32; 625],
-    mills: &[u32; 48],
+    masks: &[u32; 72],
     rings: usize,
     question: Question,
     position: board::Position,
-    from: usize,
-    tos: u32,
+    stone: Stone,
 ) -> bool
-    requires { ⌜ BinomialTable (now binomials) ⌝ }
-    requires { ⌜ MillMasks rings (now mills) ⌝ }
-    requires { ⌜ Placed rings position ⌝ }
-    requires { ⌜ Readable (length (now tablebase)) rings question (boardOf (8 * rings) position) ⌝ }
-    requires { ⌜ (bit (position .mover) from ≡ 1) × (tos ≡ setFrom (targets rings (boardOf (8 * rings) position) from)) ⌝ }
-    requires { ⌜ (tos ≡ 0 → ⊥) ⌝ }
+    requires { ⌜ Probing (now binomials) (length (now tablebase)) rings (question .starts) position ⌝ }
+    requires { ⌜ Movable rings (now masks) position stone × (stone .tos ≡ 0 → ⊥) ⌝ }
     ensures { λ r. ⌜ r ≡ any (λ m. answers (now (tablebase .entry)) question (boardOf (8 * rings) position)
-        (afterPly (boardOf (8 * rings) position) m)) (listedFrom rings (boardOf (8 * rings) position) from (targets rings (boardOf (8 * rings) position) from)) ⌝ }
+        (afterPly (boardOf (8 * rings) position) m))
+        (listedFrom rings (boardOf (8 * rings) position) (stone .from) (targets rings (boardOf (8 * rings) position) (stone .from))) ⌝ }
 {
     let lifted = board::Position {
         mover: position.opponent,
-        opponent: sets::without(position.mover, from),
+        opponent: sets::without(position.mover, stone.from),
     };
-    let mut walk = ranking::begin(binomials, 8 * rings, lifted, true, sets::lowest(tos));
-    let mut left = tos;
+    let mut walk = ranking::begin(binomials, 8 * rings, lifted, true, sets::lowest(stone.tos));
+    let mut left = stone.tos;
     while left != 0 {
-        let target = sets::lowest(left);
-        walk = ranking::go_to(binomials, 8 * rings, lifted, true, walk, target);
-        let removals = plies::removals(rings, mills, position, from, target);
+        let next = sets::take_lowest(left);
+        walk = ranking::go_to(binomials, 8 * rings, lifted, true, walk, next.lowest);
+        let removals = plies::removals(rings, masks, position, stone.from, next.lowest);
         if some_at(
             tablebase,
             binomials,
             rings,
             question,
             position,
-            plies::FROM * from + plies::TO * target,
+            Jump {
+                slide: plies::slide_number(stone.from, next.lowest),
+                lifted: lifted,
+                walk: walk,
+            },
             removals,
-            lifted,
-            walk,
         ) {
             return true;
         }
-        left = sets::without(left, target);
+        left = next.rest;
     }
     false
 }
@@ -244,42 +239,37 @@ const FEW: u32 = 4;
 fn some_target(
     tablebase: &[u16],
     binomials: &[u32; 625],
-    mills: &[u32; 48],
+    masks: &[u32; 72],
     rings: usize,
     question: Question,
     position: board::Position,
-    from: usize,
-    tos: u32,
+    stone: Stone,
 ) -> bool
-    requires { ⌜ BinomialTable (now binomials) ⌝ }
-    requires { ⌜ MillMasks rings (now mills) ⌝ }
-    requires { ⌜ Placed rings position ⌝ }
-    requires { ⌜ Readable (length (now tablebase)) rings question (boardOf (8 * rings) position) ⌝ }
-    requires { ⌜ (bit (position .mover) from ≡ 1) × (tos ≡ setFrom (targets rings (boardOf (8 * rings) position) from)) ⌝ }
+    requires { ⌜ Probing (now binomials) (length (now tablebase)) rings (question .starts) position ⌝ }
+    requires { ⌜ Movable rings (now masks) position stone ⌝ }
     ensures { λ r. ⌜ r ≡ any (λ m. answers (now (tablebase .entry)) question (boardOf (8 * rings) position)
-        (afterPly (boardOf (8 * rings) position) m)) (listedFrom rings (boardOf (8 * rings) position) from (targets rings (boardOf (8 * rings) position) from)) ⌝ }
+        (afterPly (boardOf (8 * rings) position) m))
+        (listedFrom rings (boardOf (8 * rings) position) (stone .from) (targets rings (boardOf (8 * rings) position) (stone .from))) ⌝ }
 {
-    if sets::count(tos) <= FEW {
+    if sets::count(stone.tos) <= FEW {
         return some_slide(
             tablebase,
             binomials,
-            mills,
+            masks,
             rings,
             question,
             position,
-            from,
-            tos,
+            stone,
         );
     }
     some_jump(
         tablebase,
         binomials,
-        mills,
+        masks,
         rings,
         question,
         position,
-        from,
-        tos,
+        stone,
     )
 }
 
@@ -287,37 +277,35 @@ fn some_target(
 pub fn some_successor(
     tablebase: &[u16],
     binomials: &[u32; 625],
-    near: &[u32; 24],
-    mills: &[u32; 48],
+    masks: &[u32; 72],
     rings: usize,
     question: Question,
     position: board::Position,
 ) -> bool
-    requires { ⌜ BinomialTable (now binomials) ⌝ }
-    requires { ⌜ NeighbourMasks rings (now near) ⌝ }
-    requires { ⌜ MillMasks rings (now mills) ⌝ }
-    requires { ⌜ Placed rings position ⌝ }
-    requires { ⌜ Readable (length (now tablebase)) rings question (boardOf (8 * rings) position) ⌝ }
+    requires { ⌜ Probing (now binomials) (length (now tablebase)) rings (question .starts) position ⌝ }
+    requires { ⌜ Masks rings (now masks) ⌝ }
     ensures { λ r. ⌜ r ≡ any (λ c. answers (now (tablebase .entry)) question (boardOf (8 * rings) position) c)
         (successors (λ n c. removable n c) rings (boardOf (8 * rings) position)) ⌝ }
 {
     let mut left = position.mover;
     while left != 0 {
-        let from = sets::lowest(left);
-        let tos = plies::targets(rings, near, position, from);
+        let next = sets::take_lowest(left);
+        let tos = plies::targets(rings, masks, position, next.lowest);
         if some_target(
             tablebase,
             binomials,
-            mills,
+            masks,
             rings,
             question,
             position,
-            from,
-            tos,
+            Stone {
+                from: next.lowest,
+                tos: tos,
+            },
         ) {
             return true;
         }
-        left = sets::without(left, from);
+        left = next.rest;
     }
     false
 }

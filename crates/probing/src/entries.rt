@@ -10,7 +10,14 @@ ghost use Rattle.sizes.specs.Binomial.{BinomialTable};
 ghost use Rattle.ranking.specs.Rank.{rank};
 ghost use Rattle.rules.specs.Ply.{afterPly, listedMoves};
 ghost use Rattle.plies.specs.Positions.{Placed};
-ghost use Rattle.probing.specs.Probes.{probe, Left, Reads};
+ghost use Rattle.probing.specs.Probes.{probe};
+ghost use Rattle.probing.specs.Questions.{Probing, Reached};
+
+// Where the tables of a position's successors start: of those without a removal, and of those with one.
+pub struct Starts {
+    pub same: usize,
+    pub fewer: usize,
+}
 
 // The entry of a position in the table that starts at a place.
 pub fn entry_in(
@@ -33,25 +40,21 @@ pub fn entry_after(
     tablebase: &[u16],
     binomials: &[u32; 625],
     rings: usize,
-    same: usize,
-    fewer: usize,
+    starts: Starts,
     opponent: usize,
     position: board::Position,
 ) -> u16
-    requires { ⌜ BinomialTable (now binomials) ⌝ }
-    requires { ⌜ Placed rings position ⌝ }
-    requires { ⌜ Left opponent (count 1 (boardOf (8 * rings) position)) ⌝ }
-    requires { ⌜ Reads (length (now tablebase)) (8 * rings) (count 2 (boardOf (8 * rings) position)) opponent same fewer ⌝ }
-    ensures { λ r. ⌜ r ≡ probe (now (tablebase .entry)) same fewer opponent (boardOf (8 * rings) position) ⌝ }
+    requires { ⌜ Reached (now binomials) (length (now tablebase)) rings starts opponent position ⌝ }
+    ensures { λ r. ⌜ r ≡ probe (now (tablebase .entry)) (starts .same) (starts .fewer) opponent (boardOf (8 * rings) position) ⌝ }
 {
     let stones = sets::count(position.mover) as usize;
     if stones == opponent {
-        return entry_in(tablebase, binomials, rings, same, position);
+        return entry_in(tablebase, binomials, rings, starts.same, position);
     }
     if stones < 3 {
         return 0;
     }
-    entry_in(tablebase, binomials, rings, fewer, position)
+    entry_in(tablebase, binomials, rings, starts.fewer, position)
 }
 
 // The entry of the position that a listed move leads to.
@@ -59,18 +62,15 @@ pub fn entry_after_move(
     tablebase: &[u16],
     binomials: &[u32; 625],
     rings: usize,
-    same: usize,
-    fewer: usize,
+    starts: Starts,
     position: board::Position,
     number: usize,
 ) -> u16
-    requires { ⌜ BinomialTable (now binomials) ⌝ }
-    requires { ⌜ Placed rings position ⌝ }
-    requires { ⌜ Reads (length (now tablebase)) (8 * rings) (count 1 (boardOf (8 * rings) position)) (count 2 (boardOf (8 * rings) position)) same fewer ⌝ }
+    requires { ⌜ Probing (now binomials) (length (now tablebase)) rings starts position ⌝ }
     requires { ⌜ member number (listedMoves rings (boardOf (8 * rings) position)) ≡ true ⌝ }
-    ensures { λ r. ⌜ r ≡ probe (now (tablebase .entry)) same fewer (count 2 (boardOf (8 * rings) position)) (afterPly (boardOf (8 * rings) position) number) ⌝ }
+    ensures { λ r. ⌜ r ≡ probe (now (tablebase .entry)) (starts .same) (starts .fewer) (count 2 (boardOf (8 * rings) position)) (afterPly (boardOf (8 * rings) position) number) ⌝ }
 {
     let opponent = sets::count(position.opponent) as usize;
     let after = plies::after_ply(rings, position, number);
-    entry_after(tablebase, binomials, rings, same, fewer, opponent, after)
+    entry_after(tablebase, binomials, rings, starts, opponent, after)
 }

@@ -5,122 +5,108 @@ ghost use lib.Dec.{eqb};
 ghost use lib.ListN.{length};
 ghost use Rattle.lists.specs.Lists.{any};
 ghost use Rattle.board.specs.Board.{count, boardOf};
-ghost use Rattle.sizes.specs.Binomial.{BinomialTable};
 ghost use Rattle.rules.specs.Ply.{removable, successors};
 ghost use Rattle.game.specs.Game.{voidEntry};
 ghost use Rattle.game.specs.Judgement.{hit, decided};
-ghost use Rattle.plies.specs.Masks.{NeighbourMasks, MillMasks};
-ghost use Rattle.plies.specs.Positions.{Placed};
-ghost use Rattle.probing.specs.Probes.{probe, Reads};
+ghost use Rattle.plies.specs.Masks.{Masks};
+ghost use Rattle.probing.specs.Probes.{probe};
+ghost use Rattle.probing.specs.Questions.{Probing};
 use super::asking::NOT_WON;
 use super::asking::Question;
 use super::asking::VOID;
 use super::asking::some_successor;
+use super::entries::Starts;
+
+// The key of void, and of a draw.
+const VOID_KEY: u32 = NOT_WON + VOID;
+
+const DRAW_KEY: u32 = VOID_KEY + 1;
 
 // Above all keys.
-const END: u32 = 131072;
+const END: u32 = DRAW_KEY + 1;
 
 // Whether the successors' entries give a position a depth: an odd one where some successor is lost in one ply less, an even one where all are won in
 // fewer.
 pub fn hits(
     tablebase: &[u16],
     binomials: &[u32; 625],
-    near: &[u32; 24],
-    mills: &[u32; 48],
+    masks: &[u32; 72],
     rings: usize,
-    same: usize,
-    fewer: usize,
+    starts: Starts,
     level: u32,
     position: board::Position,
 ) -> bool
-    requires { ⌜ BinomialTable (now binomials) ⌝ }
-    requires { ⌜ NeighbourMasks rings (now near) ⌝ }
-    requires { ⌜ MillMasks rings (now mills) ⌝ }
-    requires { ⌜ Placed rings position ⌝ }
-    requires { ⌜ Reads (length (now tablebase)) (8 * rings) (count 1 (boardOf (8 * rings) position)) (count 2 (boardOf (8 * rings) position)) same fewer ⌝ }
-    requires { ⌜ level < voidEntry ⌝ }
+    requires { ⌜ Probing (now binomials) (length (now tablebase)) rings starts position ⌝ }
+    requires { ⌜ Masks rings (now masks) × (level < voidEntry) ⌝ }
     ensures { λ r. ⌜ r ≡ hit (λ b. successors (λ n c. removable n c) rings b)
-        (λ b. probe (now (tablebase .entry)) same fewer (count 2 (boardOf (8 * rings) position)) b) level (boardOf (8 * rings) position) ⌝ }
+        (λ b. probe (now (tablebase .entry)) (starts .same) (starts .fewer) (count 2 (boardOf (8 * rings) position)) b) level (boardOf (8 * rings) position) ⌝ }
 {
     if level % 2 == 1 {
+        let high = NOT_WON + level;
+        let low = high - 1;
         let lost = Question {
-            same: same,
-            fewer: fewer,
-            low: NOT_WON + level - 1,
-            high: NOT_WON + level,
+            starts: starts,
+            low: low,
+            high: high,
         };
-        return some_successor(tablebase, binomials, near, mills, rings, lost, position);
+        return some_successor(tablebase, binomials, masks, rings, lost, position);
     }
     let later = Question {
-        same: same,
-        fewer: fewer,
+        starts: starts,
         low: level,
         high: END,
     };
-    !some_successor(tablebase, binomials, near, mills, rings, later, position)
+    !some_successor(tablebase, binomials, masks, rings, later, position)
 }
 
 // Whether they give it some depth: one is lost, or all are won.
 pub fn decided(
     tablebase: &[u16],
     binomials: &[u32; 625],
-    near: &[u32; 24],
-    mills: &[u32; 48],
+    masks: &[u32; 72],
     rings: usize,
-    same: usize,
-    fewer: usize,
+    starts: Starts,
     position: board::Position,
 ) -> bool
-    requires { ⌜ BinomialTable (now binomials) ⌝ }
-    requires { ⌜ NeighbourMasks rings (now near) ⌝ }
-    requires { ⌜ MillMasks rings (now mills) ⌝ }
-    requires { ⌜ Placed rings position ⌝ }
-    requires { ⌜ Reads (length (now tablebase)) (8 * rings) (count 1 (boardOf (8 * rings) position)) (count 2 (boardOf (8 * rings) position)) same fewer ⌝ }
+    requires { ⌜ Probing (now binomials) (length (now tablebase)) rings starts position ⌝ }
+    requires { ⌜ Masks rings (now masks) ⌝ }
     ensures { λ r. ⌜ r ≡ decided (λ b. successors (λ n c. removable n c) rings b)
-        (λ b. probe (now (tablebase .entry)) same fewer (count 2 (boardOf (8 * rings) position)) b) (boardOf (8 * rings) position) ⌝ }
+        (λ b. probe (now (tablebase .entry)) (starts .same) (starts .fewer) (count 2 (boardOf (8 * rings) position)) b) (boardOf (8 * rings) position) ⌝ }
 {
     let lost = Question {
-        same: same,
-        fewer: fewer,
+        starts: starts,
         low: NOT_WON,
-        high: NOT_WON + VOID,
+        high: VOID_KEY,
     };
-    if some_successor(tablebase, binomials, near, mills, rings, lost, position) {
+    if some_successor(tablebase, binomials, masks, rings, lost, position) {
         return true;
     }
     let other = Question {
-        same: same,
-        fewer: fewer,
+        starts: starts,
         low: VOID,
         high: END,
     };
-    !some_successor(tablebase, binomials, near, mills, rings, other, position)
+    !some_successor(tablebase, binomials, masks, rings, other, position)
 }
 
 // Whether some successor's entry is void.
 pub fn void_after(
     tablebase: &[u16],
     binomials: &[u32; 625],
-    near: &[u32; 24],
-    mills: &[u32; 48],
+    masks: &[u32; 72],
     rings: usize,
-    same: usize,
-    fewer: usize,
+    starts: Starts,
     position: board::Position,
 ) -> bool
-    requires { ⌜ BinomialTable (now binomials) ⌝ }
-    requires { ⌜ NeighbourMasks rings (now near) ⌝ }
-    requires { ⌜ MillMasks rings (now mills) ⌝ }
-    requires { ⌜ Placed rings position ⌝ }
-    requires { ⌜ Reads (length (now tablebase)) (8 * rings) (count 1 (boardOf (8 * rings) position)) (count 2 (boardOf (8 * rings) position)) same fewer ⌝ }
-    ensures { λ r. ⌜ r ≡ any (λ b. eqb (probe (now (tablebase .entry)) same fewer (count 2 (boardOf (8 * rings) position)) b) voidEntry)
+    requires { ⌜ Probing (now binomials) (length (now tablebase)) rings starts position ⌝ }
+    requires { ⌜ Masks rings (now masks) ⌝ }
+    ensures { λ r. ⌜ r ≡ any (λ b. eqb (probe (now (tablebase .entry)) (starts .same) (starts .fewer) (count 2 (boardOf (8 * rings) position)) b) voidEntry)
         (successors (λ n c. removable n c) rings (boardOf (8 * rings) position)) ⌝ }
 {
     let void = Question {
-        same: same,
-        fewer: fewer,
-        low: NOT_WON + VOID,
-        high: NOT_WON + VOID + 1,
+        starts: starts,
+        low: VOID_KEY,
+        high: DRAW_KEY,
     };
-    some_successor(tablebase, binomials, near, mills, rings, void, position)
+    some_successor(tablebase, binomials, masks, rings, void, position)
 }

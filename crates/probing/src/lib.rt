@@ -6,6 +6,7 @@ mod judging;
 pub use asking::Question;
 pub use asking::VOID;
 pub use asking::some_successor;
+pub use entries::Starts;
 pub use entries::entry_after;
 pub use entries::entry_after_move;
 pub use entries::entry_in;

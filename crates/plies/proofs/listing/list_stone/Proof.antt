@@ -68,14 +68,9 @@ removals-requires c κs =
     let s = c .before .before .before .before in
     (s .pre .0, slides c)
 
-mul-list-removals : tie.Need-mul-list-removals Inv-loop μ-loop
-mul-list-removals c = omega (arith, low c)
-
-mul-list-removals-2 : tie.Need-mul-list-removals-2 Inv-loop μ-loop
-mul-list-removals-2 c = omega (arith, slides (c .before .before) .low, c .before .before .before .before .before .before .pre .0 .placed .small)
-
-add-list-removals : tie.Need-add-list-removals Inv-loop μ-loop
-add-list-removals c = omega (arith, low (c .before), slides (c .before .before) .low, c .before .before .before .before .before .before .pre .0 .placed .small)
+slide-number-requires : tie.Need-slide-number-requires Inv-loop μ-loop
+slide-number-requires c κs =
+    (low c, omega (arith, slides (c .before) .low, c .before .before .before .before .before .pre .0 .placed .small))
 
 list-removals-requires : tie.Need-list-removals-requires Inv-loop μ-loop
 list-removals-requires c κs =
@@ -84,14 +79,14 @@ list-removals-requires c κs =
     let s = x .before .before in
     let a = s .args in
     let to : ℕ = r .before .take-lowest .result .lowest in
-    let rest : ℕ = r .before .take-lowest .result .rest in (
-      omega (arith, low r, slides (r .before) .low, s .pre .0 .placed .small),
+    let e = c .before .slide-number .ensures in (
+      omega (arith, e, low r, slides (r .before) .low, s .pre .0 .placed .small),
       omega (
         arith,
         length-map (elements 32 (r .removals .result)) (λ p. 1024 * a .from + 32 * to + p),
         ap length (found r),
-        written-room _ (a .list .now) (a .at) (a .tos) (x .loop .list) (x .loop .k) (x .loop .left) to rest (x .loop .inv)
-            (r .before .take-lowest .ensures) (s .pre .1 .1),
+        written-room _ (a .list .now) (a .at) (a .tos) (x .loop .list) (x .loop .k) (x .loop .left) to (r .before .take-lowest .result .rest)
+            (x .loop .inv) (r .before .take-lowest .ensures) (s .pre .1 .1),
       ),
     )
 
@@ -101,16 +96,17 @@ loop-less c = c .before .before .before .before .before .before .take-lowest .en
 loop-again : tie.Need-loop-again Inv-loop μ-loop
 loop-again c =
     let m = c .before .before in
-    let r = m .before .before .before in
+    let n = m .before .before in
+    let r = n .before in
     let x = r .before .before .before in
     let a = x .before .before .args in
     let to : ℕ = r .before .take-lowest .result .lowest in
     let e = m .list-removals .ensures in
-    written-more _ (a .list .now) (a .at) (a .tos) (x .loop .list) (x .loop .k) (x .loop .left) to
-    (r .before .take-lowest .result .rest) _ (m .list-removals .result)
-    (x .loop .inv) (r .before .take-lowest .ensures)
+    written-more _ (a .list .now) (a .at) (a .tos) (x .loop .list) (x .loop .k) (x .loop .left) to (r .before .take-lowest .result .rest) _
+    (m .list-removals .result) (x .loop .inv) (r .before .take-lowest .ensures)
     (e .0 ∙ ap (λ (n : ℕ). x .loop .k + n) (sym (length-map (elements 32 (r .removals .result)) (λ p. 1024 * a .from + 32 * to + p)) ∙ ap length (found r)))
-    (e .1 ∙ ap (sets (x .loop .list) (x .loop .k)) (found r))
+    (e .1 ∙ ap (λ (n : ℕ). sets (x .loop .list) (x .loop .k) (map (λ p. n + p) (elements 32 (r .removals .result)))) (n .slide-number .ensures)
+    ∙ ap (sets (x .loop .list) (x .loop .k)) (found r))
 
 same-length : tie.Need-same-length Inv-loop μ-loop
 same-length c = c .before .loop .inv .writing .long
@@ -130,9 +126,7 @@ list-stone-spec =
     loop-holds
     take-lowest-requires
     removals-requires
-    mul-list-removals
-    mul-list-removals-2
-    add-list-removals
+    slide-number-requires
     list-removals-requires
     loop-less
     loop-again

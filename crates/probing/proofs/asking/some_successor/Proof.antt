@@ -4,7 +4,7 @@ use Prim.Native.Nat.{ℕ, _*_}
 use native.Mathlib.Omega.{arith}
 use Rattle.lists.specs.Lists.{any}
 use Rattle.sets.specs.Sets.{bit, without}
-use Rattle.sets.proofs.Elements.{Taken, taken, bit-low}
+use Rattle.sets.proofs.Elements.{bit-low}
 use Rattle.sets.proofs.Passing.{Sought, sought-none, sought-more, sought-found, sought-all}
 use Rattle.board.specs.Board.{boardOf}
 use Rattle.rules.specs.Ply.{targets, listedFrom, afterPly}
@@ -16,49 +16,39 @@ use Rattle.probing.proofs.asking.some_successor.Statement.{statement}
 use Rattle.probing.proofs.asking.some_successor.Tie as tie
 
 abbrev Inv-loop : tie.InvT-loop
-Inv-loop tablebase binomials near mills rings question position left₀ left =
+Inv-loop tablebase binomials masks rings question position left₀ left =
     Sought (λ from. any (λ m. answers tablebase question (boardOf (8 * rings) position) (afterPly (boardOf (8 * rings) position) m))
     (listedFrom rings (boardOf (8 * rings) position) from (targets rings (boardOf (8 * rings) position) from))) (position .mover) left
 
 abbrev μ-loop : tie.MeasureT-loop
-μ-loop tablebase binomials near mills rings question position left₀ left = left
-
--- the stone taken, and the rest
-step : (c : tie.After-lowest Inv-loop μ-loop) (rest : ℕ) → rest ≡ without (c .before .before .loop .left) (c .lowest .result)
-    → Taken 32 (c .before .before .loop .left) (c .lowest .result) rest
-step c rest e =
-    let x = c .before .before in
-    taken 32 (x .loop .left) (c .lowest .result) rest (omega arith) (x .loop .inv .within) (c .before .loop-test .taken) (c .lowest .ensures .0) e
+μ-loop tablebase binomials masks rings question position left₀ left = left
 
 -- it is one of the mover's
-own : (c : tie.After-lowest Inv-loop μ-loop) → bit (c .before .before .before .before .args .position .mover) (c .lowest .result) ≡ 1
+own : (c : tie.After-take-lowest Inv-loop μ-loop) → bit (c .before .before .before .before .args .position .mover) (c .take-lowest .result .lowest) ≡ 1
 own c =
     let x = c .before .before in
-    x .loop .inv .among (c .lowest .result) (step c (without (x .loop .left) (c .lowest .result)) refl .member)
+    x .loop .inv .among (c .take-lowest .result .lowest) (c .take-lowest .ensures .member)
 
 loop-holds : tie.Need-loop-holds Inv-loop μ-loop
 loop-holds c =
     let s = c .before in
-    sought-none _ (s .args .position .mover) (mover-fits (s .args .rings) (s .args .position) (s .pre .1 .1 .1 .0))
+    sought-none _ (s .args .position .mover) (mover-fits (s .args .rings) (s .args .position) (s .pre .0 .placed))
 
-lowest-requires : tie.Need-lowest-requires Inv-loop μ-loop
-lowest-requires c κs = c .loop-test .taken
+take-lowest-requires : tie.Need-take-lowest-requires Inv-loop μ-loop
+take-lowest-requires c κs = c .loop-test .taken
 
 targets-requires : tie.Need-targets-requires Inv-loop μ-loop
 targets-requires c κs =
     let s = c .before .before .before .before in (
-      s .pre .1 .0,
-      (
-        s .pre .1 .1 .1 .0,
-        bit-low 24 (s .args .position .mover) (c .lowest .result)
-            (mover-small (s .args .rings) (s .args .position) (s .pre .1 .1 .1 .0)) (own c),
-      ),
+      record { masks = s .pre .1; placed = s .pre .0 .placed },
+      bit-low 24 (s .args .position .mover) (c .take-lowest .result .lowest)
+          (mover-small (s .args .rings) (s .args .position) (s .pre .0 .placed)) (own c),
     )
 
 some-target-requires : tie.Need-some-target-requires Inv-loop μ-loop
 some-target-requires c κs =
     let s = c .before .before .before .before .before in
-    (s .pre .0, (s .pre .1 .1 .0, (s .pre .1 .1 .1 .0, (s .pre .1 .1 .1 .1, (own (c .before), c .targets .ensures)))))
+    (s .pre .0, record { masks = s .pre .1; own = own (c .before); tos = c .targets .ensures })
 
 returns : tie.Need-returns Inv-loop μ-loop
 returns c =
@@ -67,23 +57,19 @@ returns c =
     let x = l .before .before in
     let s = x .before .before in
     let a = s .args in
-    let rest : ℕ = without (x .loop .left) (l .lowest .result) in
-    sought-found _ (a .position .mover) (x .loop .left) (l .lowest .result) rest (x .loop .inv) (step l rest refl) (sym (m .some-target .ensures) ∙ c .if1 .taken)
-    ∙ some-move (a .rings) (a .position) (s .pre .1 .1 .1 .0) _ ∙ some-successor-is _ (a .rings) (boardOf (8 * a .rings) (a .position))
-
-without-requires : tie.Need-without-requires Inv-loop μ-loop
-without-requires c κs = c .before .before .before .lowest .ensures .1
+    sought-found _ (a .position .mover) (x .loop .left) (l .take-lowest .result .lowest) (l .take-lowest .result .rest) (x .loop .inv) (l .take-lowest .ensures) (sym (m .some-target .ensures) ∙ c .if1 .taken)
+    ∙ some-move (a .rings) (a .position) (s .pre .0 .placed) _ ∙ some-successor-is _ (a .rings) (boardOf (8 * a .rings) (a .position))
 
 loop-less : tie.Need-loop-less Inv-loop μ-loop
-loop-less c = step (c .before .before .before .before) (c .without .result) (c .without .ensures) .less
+loop-less c = c .before .before .before .take-lowest .ensures .less
 
 loop-again : tie.Need-loop-again Inv-loop μ-loop
 loop-again c =
-    let m = c .before .before in
+    let m = c .before in
     let l = m .before .before in
     let x = l .before .before in
-    sought-more _ (x .before .before .args .position .mover) (x .loop .left) (l .lowest .result) (c .without .result) (x .loop .inv)
-    (step l (c .without .result) (c .without .ensures)) (sym (m .some-target .ensures) ∙ c .before .if1 .left)
+    sought-more _ (x .before .before .args .position .mover) (x .loop .left) (l .take-lowest .result .lowest) (l .take-lowest .result .rest) (x .loop .inv)
+    (l .take-lowest .ensures) (sym (m .some-target .ensures) ∙ c .if1 .left)
 
 returns-2 : tie.Need-returns-2 Inv-loop μ-loop
 returns-2 c =
@@ -91,7 +77,7 @@ returns-2 c =
     let s = x .before .before in
     let a = s .args in
     sought-all _ (a .position .mover) (x .loop .left) (x .loop .inv) (c .loop-test .left)
-    ∙ some-move (a .rings) (a .position) (s .pre .1 .1 .1 .0) _ ∙ some-successor-is _ (a .rings) (boardOf (8 * a .rings) (a .position))
+    ∙ some-move (a .rings) (a .position) (s .pre .0 .placed) _ ∙ some-successor-is _ (a .rings) (boardOf (8 * a .rings) (a .position))
 
 pub some-successor-spec : {M : Type 1} → statement M
 some-successor-spec =
@@ -100,11 +86,10 @@ some-successor-spec =
     Inv-loop
     μ-loop
     loop-holds
-    lowest-requires
+    take-lowest-requires
     targets-requires
     some-target-requires
     returns
-    without-requires
     loop-less
     loop-again
     returns-2)

@@ -19,13 +19,13 @@ returns : tie.Need-returns
 returns c = search needs
 
 -- there are some targets
-some : (c : tie.Else1) → c .before .before .before .args .tos ≡ 0 → ⊥
+some : (c : tie.Else1) → c .before .before .before .args .stone .tos ≡ 0 → ⊥
 some c z = omega (arith, c .before .count .ensures, ap (λ (s : ℕ). members s 32) z, length-elements 32 0, ap length (elements-none 32), c .if1 .left)
 
 some-jump-requires : tie.Need-some-jump-requires
 some-jump-requires c κs =
     let s = c .before .before .before in
-    (s .pre .0, (s .pre .1 .0, (s .pre .1 .1 .0, (s .pre .1 .1 .1 .0, (s .pre .1 .1 .1 .1, some c)))))
+    (s .pre .0, (s .pre .1, some c))
 
 returns-2 : tie.Need-returns-2
 returns-2 c = search needs

@@ -13,7 +13,7 @@ use Rattle.probing.proofs.entries.entry_after.Tie as tie
 stones : (c : tie.After-count) → c .count .result ≡ count 1 (boardOf (8 * c .before .before .args .rings) (c .before .before .args .position))
 stones c =
     let s = c .before .before in
-    c .count .ensures ∙ mover-count (8 * s .args .rings) (s .args .position) (s .pre .1 .0 .on) (omega (arith, s .pre .1 .0 .small))
+    c .count .ensures ∙ mover-count (8 * s .args .rings) (s .args .position) (s .pre .placed .on) (omega (arith, s .pre .placed .small))
 
 count-requires : tie.Need-count-requires
 count-requires c κs = search needs
@@ -24,21 +24,21 @@ cast-stones c = search needs
 entry-in-requires : tie.Need-entry-in-requires
 entry-in-requires c κs =
     let s = c .before .before .before in
-    (s .pre .0, (s .pre .1 .0, same-within (s .pre .1 .1 .1) _ (sym (stones (c .before)) ∙ c .if1 .taken)))
+    (s .pre .binomials, (s .pre .placed, same-within (s .pre .reads) _ (sym (stones (c .before)) ∙ c .if1 .taken)))
 
 returns : tie.Need-returns
 returns c =
     let t = c .before in
     let a = t .before .before .before .args in
     c .entry-in .ensures
-    ∙ sym (probe-same (a .tablebase .now) (a .same) (a .fewer) (a .opponent) (boardOf (8 * a .rings) (a .position)) (sym (stones (t .before)) ∙ t .if1 .taken))
+    ∙ sym (probe-same (a .tablebase .now) (a .starts .same) (a .starts .fewer) (a .opponent) (boardOf (8 * a .rings) (a .position)) (sym (stones (t .before)) ∙ t .if1 .taken))
 
 returns-2 : tie.Need-returns-2
 returns-2 c =
     let e = c .before in
     let n = e .before in
     let a = n .before .before .args in
-    sym (probe-two (a .tablebase .now) (a .same) (a .fewer) (a .opponent) (boardOf (8 * a .rings) (a .position)) (λ q. e .if1 .left (stones n ∙ q))
+    sym (probe-two (a .tablebase .now) (a .starts .same) (a .starts .fewer) (a .opponent) (boardOf (8 * a .rings) (a .position)) (λ q. e .if1 .left (stones n ∙ q))
     (omega (arith, stones n, c .if2 .taken)))
 
 entry-in-requires-2 : tie.Need-entry-in-requires-2
@@ -46,10 +46,10 @@ entry-in-requires-2 c κs =
     let e = c .before in
     let n = e .before in
     let s = n .before .before in (
-      s .pre .0,
+      s .pre .binomials,
       (
-        s .pre .1 .0,
-        fewer-within (s .pre .1 .1 .1) _ (s .pre .1 .1 .0) (λ q. e .if1 .left (stones n ∙ q)) (omega (arith, stones n, c .if2 .left)),
+        s .pre .placed,
+        fewer-within (s .pre .reads) _ (s .pre .left) (λ q. e .if1 .left (stones n ∙ q)) (omega (arith, stones n, c .if2 .left)),
       ),
     )
 
@@ -60,7 +60,7 @@ returns-3 c =
     let n = e .before in
     let a = n .before .before .args in
     c .entry-in2 .ensures
-    ∙ sym (probe-fewer (a .tablebase .now) (a .same) (a .fewer) (a .opponent) (boardOf (8 * a .rings) (a .position)) (λ q. e .if1 .left (stones n ∙ q))
+    ∙ sym (probe-fewer (a .tablebase .now) (a .starts .same) (a .starts .fewer) (a .opponent) (boardOf (8 * a .rings) (a .position)) (λ q. e .if1 .left (stones n ∙ q))
     (omega (arith, stones n, t .if2 .left)))
 
 pub entry-after-spec : {M : Type 1} → statement M

@@ -17,7 +17,7 @@ use Rattle.probing.proofs.entries.entry_after_move.Tie as tie
 stones : (c : tie.After-count) → c .count .result ≡ count 2 (boardOf (8 * c .before .before .args .rings) (c .before .before .args .position))
 stones c =
     let s = c .before .before in
-    c .count .ensures ∙ opponent-count (8 * s .args .rings) (s .args .position) (s .pre .1 .0 .on) (omega (arith, s .pre .1 .0 .small))
+    c .count .ensures ∙ opponent-count (8 * s .args .rings) (s .args .position) (s .pre .0 .placed .on) (omega (arith, s .pre .0 .placed .small))
 
 -- the board after the move
 reached : (c : tie.After-after-ply)
@@ -26,7 +26,7 @@ reached : (c : tie.After-after-ply)
 reached c =
     let s = c .before .before .before in
     let a = s .args in
-    ap (boardOf (8 * a .rings)) (c .after-ply .ensures) ∙ after-board (a .rings) (a .position) (s .pre .1 .0) (a .number) (s .pre .1 .1 .1)
+    ap (boardOf (8 * a .rings)) (c .after-ply .ensures) ∙ after-board (a .rings) (a .position) (s .pre .0 .placed) (a .number) (s .pre .1)
 
 count-requires : tie.Need-count-requires
 count-requires c κs = search needs
@@ -41,22 +41,19 @@ entry-after-requires : tie.Need-entry-after-requires
 entry-after-requires c κs =
     let s = c .before .before .before in
     let a = s .args in
-    let l = after-leads (a .rings) (a .position) (s .pre .1 .0) (a .number) (s .pre .1 .1 .1) in (
-      s .pre .0,
-      (
-        subst (Placed (a .rings)) (sym (c .after-ply .ensures)) (after-placed (a .rings) (a .position) (s .pre .1 .0) (a .number) (s .pre .1 .1 .1)),
-        (
-          rw (reached c, stones (c .before)) (left-of l),
-          rw (reached c, stones (c .before), l .opponent) (s .pre .1 .1 .0),
-        ),
-      ),
-    )
+    let l = after-leads (a .rings) (a .position) (s .pre .0 .placed) (a .number) (s .pre .1) in
+    record {
+      binomials = s .pre .0 .binomials;
+      placed = subst (Placed (a .rings)) (sym (c .after-ply .ensures)) (after-placed (a .rings) (a .position) (s .pre .0 .placed) (a .number) (s .pre .1));
+      left = rw (reached c, stones (c .before)) (left-of l);
+      reads = rw (reached c, stones (c .before), l .opponent) (s .pre .0 .reads);
+    }
 
 returns : tie.Need-returns
 returns c =
     let m = c .before in
     let a = m .before .before .before .args in
-    c .entry-after .ensures ∙ ap₂ (probe (a .tablebase .now) (a .same) (a .fewer)) (stones (m .before)) (reached m)
+    c .entry-after .ensures ∙ ap₂ (probe (a .tablebase .now) (a .starts .same) (a .starts .fewer)) (stones (m .before)) (reached m)
 
 pub entry-after-move-spec : {M : Type 1} → statement M
 entry-after-move-spec =

@@ -17,7 +17,7 @@ use Rattle.probing.proofs.judging.decided.Tie as tie
 
 -- what the first question finds
 lost : (c : tie.After-some-successor)
-    → c .some-successor .result ≡ any (λ b. isLost (probe (c .before .before .args .tablebase .now) (c .before .before .args .same) (c .before .before .args .fewer)
+    → c .some-successor .result ≡ any (λ b. isLost (probe (c .before .before .args .tablebase .now) (c .before .before .args .starts .same) (c .before .before .args .starts .fewer)
     (count 2 (boardOf (8 * c .before .before .args .rings) (c .before .before .args .position))) b))
     (successors (λ n b. removable n b) (c .before .before .args .rings) (boardOf (8 * c .before .before .args .rings) (c .before .before .args .position)))
 lost c =
@@ -25,11 +25,8 @@ lost c =
     let a = k .before .args in
     let b : List ℕ = boardOf (8 * a .rings) (a .position) in
     c .some-successor .ensures
-    ∙ some-lost (a .tablebase .now) (λ i. omega (arith, k .shared-slice-known .given i)) (a .same) (a .fewer) (count 2 b)
+    ∙ some-lost (a .tablebase .now) (λ i. omega (arith, k .shared-slice-known .given i)) (a .starts .same) (a .starts .fewer) (count 2 b)
     (successors (λ n d. removable n d) (a .rings) b)
-
-add-t11 : tie.Need-add-t11
-add-t11 c = search needs
 
 some-successor-requires : tie.Need-some-successor-requires
 some-successor-requires c κs = search needs
@@ -39,7 +36,7 @@ returns c =
     let f = c .before in
     let a = f .before .before .args in
     let b : List ℕ = boardOf (8 * a .rings) (a .position) in
-    let t : List ℕ → ℕ = λ d. probe (a .tablebase .now) (a .same) (a .fewer) (count 2 b) d in
+    let t : List ℕ → ℕ = λ d. probe (a .tablebase .now) (a .starts .same) (a .starts .fewer) (count 2 b) d in
     sym (decided-is (λ d. successors (λ n e. removable n e) (a .rings) d) t b
     ∙ ap (λ (x : Bool). x || all (λ d. isWon (t d)) (successors (λ n d. removable n d) (a .rings) b)) (sym (lost f) ∙ c .if1 .taken))
 
@@ -53,14 +50,14 @@ returns-2 c =
     let k = f .before in
     let a = k .before .args in
     let b : List ℕ = boardOf (8 * a .rings) (a .position) in
-    let t : List ℕ → ℕ = λ d. probe (a .tablebase .now) (a .same) (a .fewer) (count 2 b) d in
+    let t : List ℕ → ℕ = λ d. probe (a .tablebase .now) (a .starts .same) (a .starts .fewer) (count 2 b) d in
     ap not (c .some-successor2 .ensures)
     ∙ sym (decided-is (λ d. successors (λ n e. removable n e) (a .rings) d) t b
     ∙ ap₂ _||_ (sym (lost f) ∙ e .if1 .left)
-    (all-won (a .tablebase .now) (λ i. omega (arith, k .shared-slice-known .given i)) (a .same) (a .fewer) (count 2 b)
+    (all-won (a .tablebase .now) (λ i. omega (arith, k .shared-slice-known .given i)) (a .starts .same) (a .starts .fewer) (count 2 b)
     (successors (λ n d. removable n d) (a .rings) b)))
 
 pub decided-spec : {M : Type 1} → statement M
 decided-spec =
     tie.close
-    (tie.spec add-t11 some-successor-requires returns some-successor-requires-2 returns-2)
+    (tie.spec some-successor-requires returns some-successor-requires-2 returns-2)

@@ -13,19 +13,16 @@ use borrow.Author.Needs.{needs}
 use Rattle.probing.proofs.judging.hits.Statement.{statement}
 use Rattle.probing.proofs.judging.hits.Tie as tie
 
-add-t14 : tie.Need-add-t14
-add-t14 c = search needs
+add-high : tie.Need-add-high
+add-high c = search needs
 
-sub-t15 : tie.Need-sub-t15
-sub-t15 c = search needs
-
-add-t16 : tie.Need-add-t16
-add-t16 c = search needs
+sub-low : tie.Need-sub-low
+sub-low c = search needs
 
 some-successor-requires : tie.Need-some-successor-requires
 some-successor-requires c κs =
     let p = c .before .before .pre in
-    (p .0, (p .1 .0, (p .1 .1 .0, (p .1 .1 .1 .0, p .1 .1 .1 .1 .0))))
+    (p .0, p .1 .0)
 
 returns : tie.Need-returns
 returns c =
@@ -34,14 +31,14 @@ returns c =
     let b : List ℕ = boardOf (8 * a .rings) (a .position) in
     let odd : a .level % 2 ≡ 1 = c .before .if1 .taken in
     c .some-successor .ensures
-    ∙ some-before (a .tablebase .now) (λ i. omega (arith, k .shared-slice-known .given i)) (a .same) (a .fewer) (count 2 b)
-    (successors (λ n d. removable n d) (a .rings) b) (a .level) odd (k .before .pre .1 .1 .1 .1 .1)
-    ∙ sym (hit-odd (λ d. successors (λ n e. removable n e) (a .rings) d) (λ d. probe (a .tablebase .now) (a .same) (a .fewer) (count 2 b) d) (a .level) b odd)
+    ∙ some-before (a .tablebase .now) (λ i. omega (arith, k .shared-slice-known .given i)) (a .starts .same) (a .starts .fewer) (count 2 b)
+    (successors (λ n d. removable n d) (a .rings) b) (a .level) odd (k .before .pre .1 .1)
+    ∙ sym (hit-odd (λ d. successors (λ n e. removable n e) (a .rings) d) (λ d. probe (a .tablebase .now) (a .starts .same) (a .starts .fewer) (count 2 b) d) (a .level) b odd)
 
 some-successor-requires-2 : tie.Need-some-successor-requires-2
 some-successor-requires-2 c κs =
     let p = c .before .before .pre in
-    (p .0, (p .1 .0, (p .1 .1 .0, (p .1 .1 .1 .0, p .1 .1 .1 .1 .0))))
+    (p .0, p .1 .0)
 
 returns-2 : tie.Need-returns-2
 returns-2 c =
@@ -50,17 +47,16 @@ returns-2 c =
     let b : List ℕ = boardOf (8 * a .rings) (a .position) in
     let even : a .level % 2 ≡ 0 = omega (arith, c .before .if1 .left) in
     ap not (c .some-successor2 .ensures)
-    ∙ sym (hit-even (λ d. successors (λ n e. removable n e) (a .rings) d) (λ d. probe (a .tablebase .now) (a .same) (a .fewer) (count 2 b) d) (a .level) b even
-    ∙ all-below (a .tablebase .now) (λ i. omega (arith, k .shared-slice-known .given i)) (a .same) (a .fewer) (count 2 b)
-    (successors (λ n d. removable n d) (a .rings) b) (a .level) (omega (arith, k .before .pre .1 .1 .1 .1 .1)))
+    ∙ sym (hit-even (λ d. successors (λ n e. removable n e) (a .rings) d) (λ d. probe (a .tablebase .now) (a .starts .same) (a .starts .fewer) (count 2 b) d) (a .level) b even
+    ∙ all-below (a .tablebase .now) (λ i. omega (arith, k .shared-slice-known .given i)) (a .starts .same) (a .starts .fewer) (count 2 b)
+    (successors (λ n d. removable n d) (a .rings) b) (a .level) (omega (arith, k .before .pre .1 .1)))
 
 pub hits-spec : {M : Type 1} → statement M
 hits-spec =
     tie.close
     (tie.spec
-    add-t14
-    sub-t15
-    add-t16
+    add-high
+    sub-low
     some-successor-requires
     returns
     some-successor-requires-2

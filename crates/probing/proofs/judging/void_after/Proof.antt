@@ -10,15 +10,6 @@ use borrow.Author.Needs.{needs}
 use Rattle.probing.proofs.judging.void_after.Statement.{statement}
 use Rattle.probing.proofs.judging.void_after.Tie as tie
 
-add-t10 : tie.Need-add-t10
-add-t10 c = search needs
-
-add-t11 : tie.Need-add-t11
-add-t11 c = search needs
-
-add-t12 : tie.Need-add-t12
-add-t12 c = search needs
-
 some-successor-requires : tie.Need-some-successor-requires
 some-successor-requires c κs = search needs
 
@@ -28,8 +19,8 @@ returns c =
     let a = k .before .args in
     let b : List ℕ = boardOf (8 * a .rings) (a .position) in
     c .some-successor .ensures
-    ∙ some-void (a .tablebase .now) (λ i. omega (arith, k .shared-slice-known .given i)) (a .same) (a .fewer) (count 2 b)
+    ∙ some-void (a .tablebase .now) (λ i. omega (arith, k .shared-slice-known .given i)) (a .starts .same) (a .starts .fewer) (count 2 b)
     (successors (λ n d. removable n d) (a .rings) b)
 
 pub void-after-spec : {M : Type 1} → statement M
-void-after-spec = tie.close (tie.spec add-t10 add-t11 add-t12 some-successor-requires returns)
+void-after-spec = tie.close (tie.spec some-successor-requires returns)
