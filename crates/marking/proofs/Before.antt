@@ -23,7 +23,8 @@ use Rattle.rules.specs.Predecessors.{unslide}
 use Rattle.rules.proofs.Leads.{slide-is}
 use Rattle.rules.proofs.OnSets.{set-within}
 use Rattle.plies.specs.Positions.{Placed}
-use Rattle.marking.specs.Stones.{VacantAt, VacantAll, Room}
+use Rattle.marking.specs.declared.Back.{Back}
+use Rattle.marking.specs.Stones.{VacantAt, VacantAll, Room, Returning}
 use Rattle.ranking.specs.Inserting.{Vacant}
 use Rattle.ranking.proofs.Puts.{mover-ones, opponent-ones, put-mover-on, put-mover-board, take-mover-on, take-mover-board}
 
@@ -196,3 +197,8 @@ room-same {points} {m} {o} {start} {end} w e f g = record {
   whole = w .whole ∙ ap₂ (λ (x y : ℕ). start + size points x y) e f;
   within = subst (λ (n : ℕ). end ≤ n) g (w .within);
 }
+
+-- the positions before a ply, in a tablebase of the same length
+pub returning-same : {lent : List ℕ} {n m rings : ℕ} {back : Back} {position : Position} → Returning lent n rings back position → n ≡ m
+    → Returning lent m rings back position
+returning-same {lent} {n} {m} {rings} {back} {position} w e = subst (λ (k : ℕ). Returning lent k rings back position) e w

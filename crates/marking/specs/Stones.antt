@@ -2,13 +2,18 @@
 use mathlib.Core.Path.{_≡_}
 use mathlib.Core.Bool.{Bool, true, false}
 use mathlib.Core.List.{List, []}
-use Prim.Native.Nat.{ℕ, _+_, _*_, _≤_, _<_}
+use Prim.Native.Nat.{ℕ, _+_, _-_, _*_, _≤_, _<_}
 use Rattle.lists.specs.Lists.{each}
 use Rattle.sets.specs.Sets.{bit}
 use Rattle.board.specs.declared.position.Position.{Position}
+use Rattle.board.specs.Board.{count, digit, boardOf}
 use Rattle.sizes.specs.Size.{size}
+use Rattle.sizes.specs.Binomial.{BinomialTable}
 use Rattle.rules.specs.Ply.{holds, inMill}
 use Rattle.rules.specs.Predecessors.{origins, restored}
+use Rattle.plies.specs.Positions.{Placed}
+use Rattle.parts.specs.declared.Part.{Part}
+use Rattle.marking.specs.declared.Back.{Back}
 
 -- a stone may have moved last: any, or one in a full mill where a stone was removed
 unfoldable pub mayHaveMoved : Bool → ℕ → List ℕ → ℕ → Bool
@@ -35,3 +40,24 @@ VacantAll rings position points = (p : ℕ) → bit points p ≡ 1 → VacantAt 
 pub record Room (points m o start end places : ℕ) : Type 0 where
   pub whole : end ≡ start + size points m o
   pub within : end ≤ places
+
+-- a position, the lent binomials, and its table among so many places
+pub record Markable (lent : List ℕ) (length rings : ℕ) (part : Part) (position : Position) : Type 0 where
+  pub binomials : BinomialTable lent
+  pub placed : Placed rings position
+  pub room : Room (8 * rings) (count 1 (boardOf (8 * rings) position)) (count 2 (boardOf (8 * rings) position)) (part .start) (part .end) length
+
+-- the same of the positions with one stone more, the opponent's or the mover's, at one of some vacant points
+pub record Putting (lent : List ℕ) (length rings : ℕ) (part : Part) (base : Position) (theirs : Bool) (points : ℕ) : Type 0 where
+  pub binomials : BinomialTable lent
+  pub placed : Placed rings base
+  pub vacant : VacantAll rings base points
+  pub room : Room (8 * rings) (count 1 (boardOf (8 * rings) base) + (1 - digit theirs)) (count 2 (boardOf (8 * rings) base) + digit theirs)
+      (part .start) (part .end) length
+
+-- the same of the positions before a ply to a position
+pub record Returning (lent : List ℕ) (length rings : ℕ) (back : Back) (position : Position) : Type 0 where
+  pub binomials : BinomialTable lent
+  pub placed : Placed rings position
+  pub room : Room (8 * rings) (count 2 (boardOf (8 * rings) position)) (count 1 (boardOf (8 * rings) position) + digit (back .capture))
+      (back .part .start) (back .part .end) length

@@ -17,6 +17,12 @@ pub const DRAW: u16 = 65535;
 // The entry of a position that is not to be used.
 pub const VOID: u16 = 65534;
 
+// The places of a tablebase from start on and below end: one table's.
+pub struct Part {
+    pub start: usize,
+    pub end: usize,
+}
+
 // Every entry of a part is v.
 fn fill(part: &mut [u16], v: u16)
     ensures { λ _. ⌜ now (part .exit) ≡ replicate (length (now (part .entry))) v ⌝ }
@@ -50,29 +56,35 @@ fn mark(part: &mut [u16], r: usize)
 }
 
 // Fills a table with one value.
-pub fn fill_table(tablebase: &mut [u16], start: usize, end: usize, v: u16)
-    requires { ⌜ (start ≤ end) × (end ≤ length (now tablebase)) ⌝ }
-    ensures { λ _. ⌜ now (tablebase .exit) ≡ filledPart start end v (now (tablebase .entry)) ⌝ }
+pub fn fill_table(tablebase: &mut [u16], part: Part, v: u16)
+    requires { ⌜ (part .start ≤ part .end) × (part .end ≤ length (now tablebase)) ⌝ }
+    ensures { λ _. ⌜ now (tablebase .exit) ≡ filledPart (part .start) (part .end) v (now (tablebase .entry)) ⌝ }
 {
+    let start = part.start;
+    let end = part.end;
     fill(&mut tablebase[start..end], v);
 }
 
 // Writes the entry of rank r of a table.
-pub fn write_entry(tablebase: &mut [u16], start: usize, end: usize, r: usize, v: u16)
-    requires { ⌜ (start + r < end) × (end ≤ length (now tablebase)) ⌝ }
-    ensures { λ _. ⌜ now (tablebase .exit) ≡ set (now (tablebase .entry)) (start + r) v ⌝ }
+pub fn write_entry(tablebase: &mut [u16], part: Part, r: usize, v: u16)
+    requires { ⌜ (part .start + r < part .end) × (part .end ≤ length (now tablebase)) ⌝ }
+    ensures { λ _. ⌜ now (tablebase .exit) ≡ set (now (tablebase .entry)) (part .start + r) v ⌝ }
 {
+    let start = part.start;
+    let end = part.end;
     write(&mut tablebase[start..end], r, v);
 }
 
 // Marks the entry of rank r of a table by void, if it is open.
-pub fn mark_entry(tablebase: &mut [u16], start: usize, end: usize, r: usize)
-    requires { ⌜ (start + r < end) × (end ≤ length (now tablebase)) ⌝ }
-    ensures { λ _. ⌜ now (tablebase .exit) ≡ elim (eqb (getD (now (tablebase .entry)) (start + r) 0) drawEntry) [
-      | true ↦ set (now (tablebase .entry)) (start + r) voidEntry
+pub fn mark_entry(tablebase: &mut [u16], part: Part, r: usize)
+    requires { ⌜ (part .start + r < part .end) × (part .end ≤ length (now tablebase)) ⌝ }
+    ensures { λ _. ⌜ now (tablebase .exit) ≡ elim (eqb (getD (now (tablebase .entry)) (part .start + r) 0) drawEntry) [
+      | true ↦ set (now (tablebase .entry)) (part .start + r) voidEntry
       | false ↦ now (tablebase .entry)
     ] ⌝ }
 {
+    let start = part.start;
+    let end = part.end;
     mark(&mut tablebase[start..end], r);
 }
 
@@ -117,17 +129,21 @@ fn has_void(part: &[u16]) -> bool
 }
 
 // The least depth from `low` on in a table.
-pub fn least_depth(tablebase: &[u16], start: usize, end: usize, low: u16) -> u16
-    requires { ⌜ (start ≤ end) × (end ≤ length (now tablebase)) × (low ≤ voidEntry) ⌝ }
-    ensures { λ r. ⌜ r ≡ leastFrom low (partOf start end (now (tablebase .entry))) ⌝ }
+pub fn least_depth(tablebase: &[u16], part: Part, low: u16) -> u16
+    requires { ⌜ (part .start ≤ part .end) × (part .end ≤ length (now tablebase)) × (low ≤ voidEntry) ⌝ }
+    ensures { λ r. ⌜ r ≡ leastFrom low (partOf (part .start) (part .end) (now (tablebase .entry))) ⌝ }
 {
+    let start = part.start;
+    let end = part.end;
     least_from(&tablebase[start..end], low)
 }
 
 // Whether an entry of a table is void.
-pub fn void_within(tablebase: &[u16], start: usize, end: usize) -> bool
-    requires { ⌜ (start ≤ end) × (end ≤ length (now tablebase)) ⌝ }
-    ensures { λ r. ⌜ r ≡ any (λ e. eqb e voidEntry) (partOf start end (now (tablebase .entry))) ⌝ }
+pub fn void_within(tablebase: &[u16], part: Part) -> bool
+    requires { ⌜ (part .start ≤ part .end) × (part .end ≤ length (now tablebase)) ⌝ }
+    ensures { λ r. ⌜ r ≡ any (λ e. eqb e voidEntry) (partOf (part .start) (part .end) (now (tablebase .entry))) ⌝ }
 {
+    let start = part.start;
+    let end = part.end;
     has_void(&tablebase[start..end])
 }

@@ -30,7 +30,7 @@ without-requires c κs =
     let a = s .args in
     omega (
       arith,
-      bit-low 24 (a .position .opponent) (a .to) (opponent-small (a .rings) (a .position) (s .pre .1 .0)) (s .pre .1 .1 .1 .0),
+      bit-low 24 (a .position .opponent) (a .to) (opponent-small (a .rings) (a .position) (s .pre .0 .placed)) (s .pre .1 .0),
     )
 
 with-requires : tie.Need-with-requires
@@ -45,31 +45,29 @@ vacant-requires c κs = search needs
 without-requires-2 : tie.Need-without-requires-2
 without-requires-2 c κs = search needs
 
-mark-restored-requires : tie.Need-mark-restored-requires
-mark-restored-requires c κs =
+mark-put-requires : tie.Need-mark-put-requires
+mark-put-requires c κs =
     let o = c .before in
     let i = o .before .before in
     let w = i .before in
     let s = w .before .before .before in
     let a = s .args in
-    let p = s .pre .1 .0 in
-    let g = s .pre .1 .1 .1 in (
-      s .pre .0,
-      (
-        (
-          before-placed (a .rings) (a .position) p (a .to) (a .from) (w .with .result) (g .0) (g .1) (made w),
-          λ q e. others-vacant (a .rings) (a .position) p (a .to) (a .from) (w .with .result) (g .0) (g .1) (made w) q
-              (sym (ap (λ (x : ℕ). bit x q) (o .without2 .ensures ∙ ap (λ (x : ℕ). without x (a .from)) (o .before .vacant .ensures))) ∙ e),
-        ),
-        room-same (s .pre .1 .1 .0) (sym (before-mover (a .rings) (a .position) p (a .to) (a .from) (w .with .result) (g .0) (g .1) (made w)))
-            (omega (
-              arith,
-              before-opponent (a .rings) (a .position) p (a .to) (a .from) (w .with .result) (g .0) (g .1) (made w),
-              ap digit (i .if1 .taken),
-            ))
-            refl,
-      ),
-    )
+    let p = s .pre .0 .placed in
+    let g = s .pre .1 in
+    record {
+      binomials = s .pre .0 .binomials;
+      placed = before-placed (a .rings) (a .position) p (a .to) (a .from) (w .with .result) (g .0) (g .1) (made w);
+      vacant = λ q e. others-vacant (a .rings) (a .position) p (a .to) (a .from) (w .with .result) (g .0) (g .1) (made w) q
+          (sym (ap (λ (x : ℕ). bit x q) (o .without2 .ensures ∙ ap (λ (x : ℕ). without x (a .from)) (o .before .vacant .ensures))) ∙ e);
+      room = room-same (s .pre .0 .room)
+          (omega (arith, before-mover (a .rings) (a .position) p (a .to) (a .from) (w .with .result) (g .0) (g .1) (made w)))
+          (omega (
+            arith,
+            before-opponent (a .rings) (a .position) p (a .to) (a .from) (w .with .result) (g .0) (g .1) (made w),
+            ap digit (i .if1 .taken),
+          ))
+          refl;
+    }
 
 mark-position-requires : tie.Need-mark-position-requires
 mark-position-requires c κs =
@@ -77,20 +75,19 @@ mark-position-requires c κs =
     let w = i .before in
     let s = w .before .before .before in
     let a = s .args in
-    let p = s .pre .1 .0 in
-    let g = s .pre .1 .1 .1 in (
-      s .pre .0,
-      (
-        before-placed (a .rings) (a .position) p (a .to) (a .from) (w .with .result) (g .0) (g .1) (made w),
-        room-same (s .pre .1 .1 .0) (sym (before-mover (a .rings) (a .position) p (a .to) (a .from) (w .with .result) (g .0) (g .1) (made w)))
-            (omega (
-              arith,
-              before-opponent (a .rings) (a .position) p (a .to) (a .from) (w .with .result) (g .0) (g .1) (made w),
-              ap digit (i .if1 .left),
-            ))
-            refl,
-      ),
-    )
+    let p = s .pre .0 .placed in
+    let g = s .pre .1 in
+    record {
+      binomials = s .pre .0 .binomials;
+      placed = before-placed (a .rings) (a .position) p (a .to) (a .from) (w .with .result) (g .0) (g .1) (made w);
+      room = room-same (s .pre .0 .room) (sym (before-mover (a .rings) (a .position) p (a .to) (a .from) (w .with .result) (g .0) (g .1) (made w)))
+          (omega (
+            arith,
+            before-opponent (a .rings) (a .position) p (a .to) (a .from) (w .with .result) (g .0) (g .1) (made w),
+            ap digit (i .if1 .left),
+          ))
+          refl;
+    }
 
 same-length : tie.Need-same-length
 same-length c = search needs
@@ -103,10 +100,10 @@ returns c =
     let w = i .before in
     let s = w .before .before .before in
     let a = s .args in
-    let g = s .pre .1 .1 .1 in
-    m .mark-restored .ensures
-    ∙ ap (λ (l : List (List ℕ)). marked (places (a .start) l) (a .tablebase .now))
-    (restored-given (a .rings) (a .position) (s .pre .1 .0) (a .to) (a .from) (w .with .result) (g .0) (g .1) (made w) (o .without2 .result)
+    let g = s .pre .1 in
+    m .mark-put .ensures
+    ∙ ap (λ (l : List (List ℕ)). marked (places (a .back .part .start) l) (a .tablebase .now))
+    (restored-given (a .rings) (a .position) (s .pre .0 .placed) (a .to) (a .from) (w .with .result) (g .0) (g .1) (made w) (o .without2 .result)
     (o .without2 .ensures ∙ ap (λ (x : ℕ). without x (a .from)) (o .before .vacant .ensures))
     ∙ ap (λ (b : Bool). restored b (a .rings) (boardOf (8 * a .rings) (a .position)) (a .to) (a .from)) (sym (i .if1 .taken)))
 
@@ -120,12 +117,12 @@ returns-2 c =
     let w = i .before in
     let s = w .before .before .before in
     let a = s .args in
-    let g = s .pre .1 .1 .1 in
+    let g = s .pre .1 in
     let b : List ℕ = boardOf (8 * a .rings) (a .position) in
     m .mark-position .ensures
-    ∙ sym (marked-one (a .start + rank (boardOf (8 * a .rings) record { mover = w .with .result; opponent = a .position .mover })) (a .tablebase .now))
-    ∙ ap (λ (l : List (List ℕ)). marked (places (a .start) l) (a .tablebase .now))
-    (ap (λ (d : List ℕ). d ∷ []) (before-board (a .rings) (a .position) (s .pre .1 .0) (a .to) (a .from) (w .with .result) (g .0) (g .1) (made w))
+    ∙ sym (marked-one (a .back .part .start + rank (boardOf (8 * a .rings) record { mover = w .with .result; opponent = a .position .mover })) (a .tablebase .now))
+    ∙ ap (λ (l : List (List ℕ)). marked (places (a .back .part .start) l) (a .tablebase .now))
+    (ap (λ (d : List ℕ). d ∷ []) (before-board (a .rings) (a .position) (s .pre .0 .placed) (a .to) (a .from) (w .with .result) (g .0) (g .1) (made w))
     ∙ sym (restored-none (a .rings) b (a .to) (a .from))
     ∙ ap (λ (t : Bool). restored t (a .rings) b (a .to) (a .from)) (sym (i .if1 .left)))
 
@@ -138,7 +135,7 @@ mark-origin-spec =
     mul-vacant
     vacant-requires
     without-requires-2
-    mark-restored-requires
+    mark-put-requires
     mark-position-requires
     same-length
     returns

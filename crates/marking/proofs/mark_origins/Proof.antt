@@ -25,36 +25,33 @@ mark-each-origin-requires : tie.Need-mark-each-origin-requires
 mark-each-origin-requires c κs = search needs
 
 -- by the walk no stone was removed
-none : (c : tie.Else1) → c .before .before .before .args .capture ≡ false
-none c = or-left (c .before .before .before .args .capture) _ (c .if1 .left)
+none : (c : tie.Else1) → c .before .before .before .before .args .back .capture ≡ false
+none c = or-left (c .before .before .before .before .args .back .capture) _ (c .if1 .left)
 
 without-requires : tie.Need-without-requires
 without-requires c κs =
-    let s = c .before .before .before in
+    let s = c .before .before .before .before in
     let a = s .args in
     omega (
       arith,
-      bit-low 24 (a .position .opponent) (a .to) (opponent-small (a .rings) (a .position) (s .pre .1 .0)) (s .pre .1 .1 .1 .0),
+      bit-low 24 (a .position .opponent) (a .to) (opponent-small (a .rings) (a .position) (s .pre .0 .placed)) (s .pre .1 .0),
     )
 
 mark-put-requires : tie.Need-mark-put-requires
 mark-put-requires c κs =
     let w = c .before in
-    let s = w .before .before .before .before in
+    let s = w .before .before .before .before .before in
     let a = s .args in
-    let p = s .pre .1 .0 in
-    let g = s .pre .1 .1 .1 in
-    let m : ℕ = w .without .result in (
-      s .pre .0,
-      (
-        (
-          lifted-placed (a .rings) (a .position) p (a .to) m (g .0) (w .without .ensures),
-          λ q e. lifted-vacant (a .rings) (a .position) p (a .to) m (g .0) (w .without .ensures) q (g .1 q e),
-        ),
-        room-same (s .pre .1 .1 .0) (lifted-mover (a .rings) (a .position) p (a .to) m (g .0) (w .without .ensures))
-            (omega (arith, lifted-opponent (a .rings) (a .position) p (a .to) m (g .0) (w .without .ensures), ap digit (none (w .before)))) refl,
-      ),
-    )
+    let p = s .pre .0 .placed in
+    let g = s .pre .1 in
+    let m : ℕ = w .without .result in
+    record {
+      binomials = s .pre .0 .binomials;
+      placed = lifted-placed (a .rings) (a .position) p (a .to) m (g .0) (w .without .ensures);
+      vacant = λ q e. lifted-vacant (a .rings) (a .position) p (a .to) m (g .0) (w .without .ensures) q (g .1 q e);
+      room = room-same (s .pre .0 .room) (lifted-mover (a .rings) (a .position) p (a .to) m (g .0) (w .without .ensures))
+          (omega (arith, lifted-opponent (a .rings) (a .position) p (a .to) m (g .0) (w .without .ensures), ap digit (none (w .before)))) refl;
+    }
 
 same-length : tie.Need-same-length
 same-length c = search needs
@@ -69,12 +66,12 @@ returns-2 : tie.Need-returns-2
 returns-2 c =
     let m = c .before .before in
     let w = m .before .before in
-    let s = w .before .before .before .before in
+    let s = w .before .before .before .before .before in
     let a = s .args in
     let b : List ℕ = boardOf (8 * a .rings) (a .position) in
     m .mark-put .ensures
-    ∙ ap (λ (l : List (List ℕ)). marked (places (a .start) l) (a .tablebase .now))
-    (lifted-given (a .rings) (a .position) (s .pre .1 .0) (a .to) (w .without .result) (s .pre .1 .1 .1 .0) (w .without .ensures) (elements 32 (a .froms))
+    ∙ ap (λ (l : List (List ℕ)). marked (places (a .back .part .start) l) (a .tablebase .now))
+    (lifted-given (a .rings) (a .position) (s .pre .0 .placed) (a .to) (w .without .result) (s .pre .1 .0) (w .without .ensures) (elements 32 (a .froms))
     ∙ ap (λ (t : Bool). each (λ from. restored t (a .rings) b (a .to) from) (elements 32 (a .froms))) (sym (none (w .before))))
 
 pub mark-origins-spec : {M : Type 1} → statement M

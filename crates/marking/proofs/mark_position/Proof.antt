@@ -28,8 +28,8 @@ mark-entry-requires c κs =
     let b : List ℕ = boardOf n (a .position) in
     let l : rank b < size n (count 1 b) (count 2 b) =
     subst (λ (k : ℕ). rank b < size k (count 1 b) (count 2 b)) (length-board n (a .position))
-    (rank-low b (board-values n (a .position) (s .pre .1 .0 .on))) in
-    (omega (arith, c .before .rank .ensures, l, s .pre .1 .1 .whole), s .pre .1 .1 .within)
+    (rank-low b (board-values n (a .position) (s .pre .placed .on))) in
+    (omega (arith, c .before .rank .ensures, l, s .pre .room .whole), s .pre .room .within)
 
 same-length : tie.Need-same-length
 same-length c = search needs
@@ -39,8 +39,8 @@ returns c =
     let r = c .before .before .before .before in
     let a = r .before .before .args in
     c .before .before .mark-entry .ensures
-    ∙ sym (mark-is (a .start + r .rank .result) (a .tablebase .now))
-    ∙ ap (λ (i : ℕ). markAt (a .start + i) (a .tablebase .now)) (r .rank .ensures)
+    ∙ sym (mark-is (a .part .start + r .rank .result) (a .tablebase .now))
+    ∙ ap (λ (i : ℕ). markAt (a .part .start + i) (a .tablebase .now)) (r .rank .ensures)
 
 pub mark-position-spec : {M : Type 1} → statement M
 mark-position-spec =

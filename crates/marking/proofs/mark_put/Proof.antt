@@ -5,7 +5,8 @@ use Prim.Native.Nat.{ℕ, suc, _+_, _-_, _*_, _≤_, _<_}
 use native.Mathlib.Omega.{arith}
 use lib.ListN.{length, set}
 use Rattle.sets.specs.Sets.{bit, without, elements}
-use Rattle.sets.proofs.Elements.{Taken, taken, lowest-member}
+use Rattle.sets.proofs.Least.{lowest-least}
+use Rattle.sets.proofs.Elements.{lowest-member}
 use Rattle.board.specs.Board.{count, digit, boardOf}
 use Rattle.board.proofs.Sides.{length-board, board-values}
 use Rattle.sizes.specs.Size.{size}
@@ -20,13 +21,13 @@ use Rattle.marking.proofs.mark_put.Statement.{statement}
 use Rattle.marking.proofs.mark_put.Tie as tie
 
 abbrev Inv-loop : tie.InvT-loop
-Inv-loop tablebase₀ binomials rings start end base theirs points walk₀ left₀ tablebase walk left =
-    Marking start (λ p. set (boardOf (8 * rings) base) p (suc (digit theirs)) ∷ []) tablebase₀ points tablebase left
+Inv-loop tablebase₀ binomials rings part base theirs points walk₀ left₀ tablebase walk left =
+    Marking (part .start) (λ p. set (boardOf (8 * rings) base) p (suc (digit theirs)) ∷ []) tablebase₀ points tablebase left
     × Inserting (boardOf (8 * rings) base) theirs walk
     × ((q : ℕ) → bit left q ≡ 1 → walk .at ≤ q)
 
 abbrev μ-loop : tie.MeasureT-loop
-μ-loop tablebase₀ binomials rings start end base theirs points walk₀ left₀ tablebase walk left = left
+μ-loop tablebase₀ binomials rings part base theirs points walk₀ left₀ tablebase walk left = left
 
 module _ (s : tie.Start Inv-loop μ-loop) where
   abbrev board : List ℕ
@@ -36,20 +37,20 @@ module _ (s : tie.Start Inv-loop μ-loop) where
   put p = set (boardOf (8 * s .args .rings) (s .args .base)) p (suc (digit (s .args .theirs)))
 
   few : 8 * s .args .rings ≤ 24
-  few = omega (arith, s .pre .1 .0 .0 .small)
+  few = omega (arith, s .pre .placed .small)
 
   -- a point of the set is vacant
   vacant : (p : ℕ) → bit (s .args .points) p ≡ 1 → Vacant board p
-  vacant p e = vacant-board (s .args .rings) (s .args .base) (s .pre .1 .0 .0) p (s .pre .1 .0 .1 p e)
+  vacant p e = vacant-board (s .args .rings) (s .args .base) (s .pre .placed) p (s .pre .vacant p e)
 
   -- and the rank with a stone there is one of the table
-  low : (p : ℕ) → Vacant board p → s .args .start + rank (put p) < s .args .end
+  low : (p : ℕ) → Vacant board p → s .args .part .start + rank (put p) < s .args .part .end
   low p v =
       let a = s .args in
       let l : length board ≤ 24 = omega (arith, length-board (8 * a .rings) (a .base), few) in
-      let h = put-low board (board-values (8 * a .rings) (a .base) (s .pre .1 .0 .0 .on)) l (a .theirs) p v in
+      let h = put-low board (board-values (8 * a .rings) (a .base) (s .pre .placed .on)) l (a .theirs) p v in
       let e = ap (λ (n : ℕ). size n (count 1 board + (1 - digit (a .theirs))) (count 2 board + digit (a .theirs))) (length-board (8 * a .rings) (a .base)) in
-      omega (arith, h, e, s .pre .1 .1 .whole)
+      omega (arith, h, e, s .pre .room .whole)
 
 mul-begin : tie.Need-mul-begin Inv-loop μ-loop
 mul-begin c = omega (arith, few (c .before .before))
@@ -62,36 +63,26 @@ begin-requires c κs =
     let s = c .before .before .before in
     let a = s .args in
     let e = lowest-member (a .points) (s .fits .points .fits) (c .before .if1 .taken) in
-    (s .pre .0, (few s, s .pre .1 .0 .0 .on, vacant s (c .lowest .result) (ap (bit (a .points)) (c .lowest .ensures .0) ∙ e)))
+    (s .pre .binomials, (few s, s .pre .placed .on, vacant s (c .lowest .result) (ap (bit (a .points)) (c .lowest .ensures .0) ∙ e)))
 
 loop-holds : tie.Need-loop-holds Inv-loop μ-loop
 loop-holds c =
     let l = c .before in
     let s = l .before .before .before in
     let a = s .args in (
-      marking-none (a .start) (λ p. put s p ∷ []) (a .tablebase .now) (a .points) (s .fits .points .fits),
+      marking-none (a .part .start) (λ p. put s p ∷ []) (a .tablebase .now) (a .points) (s .fits .points .fits),
       c .begin .ensures .1,
       λ q e. omega (arith, c .begin .ensures .0, l .lowest .ensures .0, lowest-least (a .points) q (s .fits .points .fits) (l .before .if1 .taken) e),
     )
 
-lowest-requires-2 : tie.Need-lowest-requires-2 Inv-loop μ-loop
-lowest-requires-2 c κs = c .loop-test .taken
-
--- the point taken, and the rest
-step : (c : tie.After-lowest2 Inv-loop μ-loop) (rest : ℕ) → rest ≡ without (c .before .before .loop .left) (c .lowest2 .result)
-    → Taken 32 (c .before .before .loop .left) (c .lowest2 .result) rest
-step c rest e =
-    let x = c .before .before in
-    taken 32 (x .loop .left) (c .lowest2 .result) rest (omega arith) (x .loop .inv .0 .within) (c .before .loop-test .taken) (c .lowest2 .ensures .0) e
-
-member : (c : tie.After-lowest2 Inv-loop μ-loop) → bit (c .before .before .loop .left) (c .lowest2 .result) ≡ 1
-member c = step c (without (c .before .before .loop .left) (c .lowest2 .result)) refl .member
+take-lowest-requires : tie.Need-take-lowest-requires Inv-loop μ-loop
+take-lowest-requires c κs = c .loop-test .taken
 
 -- it is vacant
-free : (c : tie.After-lowest2 Inv-loop μ-loop) → Vacant (board (c .before .before .before .before .before .before .before)) (c .lowest2 .result)
+free : (c : tie.After-take-lowest Inv-loop μ-loop) → Vacant (board (c .before .before .before .before .before .before .before)) (c .take-lowest .result .lowest)
 free c =
     let x = c .before .before in
-    vacant (x .before .before .before .before .before) (c .lowest2 .result) (x .loop .inv .0 .among (c .lowest2 .result) (member c))
+    vacant (x .before .before .before .before .before) (c .take-lowest .result .lowest) (x .loop .inv .0 .among (c .take-lowest .result .lowest) (c .take-lowest .ensures .member))
 
 mul-go-to : tie.Need-mul-go-to Inv-loop μ-loop
 mul-go-to c = omega (arith, few (c .before .before .before .before .before .before .before))
@@ -102,9 +93,9 @@ go-to-requires c κs =
     let s = x .before .before .before .before .before in
     let a = s .args in
     let l = free c .low in (
-      s .pre .0,
+      s .pre .binomials,
       (
-        (few s, s .pre .1 .0 .0 .on, x .loop .inv .2 (c .lowest2 .result) (member c), omega (arith, l, length-board (8 * a .rings) (a .base))),
+        (few s, s .pre .placed .on, x .loop .inv .2 (c .take-lowest .result .lowest) (c .take-lowest .ensures .member), omega (arith, l, length-board (8 * a .rings) (a .base))),
         x .loop .inv .1,
       ),
     )
@@ -121,7 +112,7 @@ there c =
 rank-at-requires : tie.Need-rank-at-requires Inv-loop μ-loop
 rank-at-requires c κs =
     let s = c .before .before .before .before .before .before .before .before in
-    (s .pre .0, ((few s, s .pre .1 .0 .0 .on, there c), c .go-to .ensures .1))
+    (s .pre .binomials, ((few s, s .pre .placed .on, there c), c .go-to .ensures .1))
 
 mark-entry-requires : tie.Need-mark-entry-requires Inv-loop μ-loop
 mark-entry-requires c κs =
@@ -129,37 +120,29 @@ mark-entry-requires c κs =
     let g = r .before in
     let x = g .before .before .before in
     let s = x .before .before .before .before .before in
-    (omega (arith, r .rank-at .ensures, low s (g .go-to .result .at) (there g)), omega (arith, s .pre .1 .1 .within, x .loop .inv .0 .long))
-
-without-requires : tie.Need-without-requires Inv-loop μ-loop
-without-requires c κs = c .before .before .before .before .before .before .lowest2 .ensures .1
+    (omega (arith, r .rank-at .ensures, low s (g .go-to .result .at) (there g)), omega (arith, s .pre .room .within, x .loop .inv .0 .long))
 
 loop-less : tie.Need-loop-less Inv-loop μ-loop
-loop-less c = step (c .before .before .before .before .before .before .before) (c .without .result) (c .without .ensures) .less
+loop-less c = c .before .before .before .before .before .before .take-lowest .ensures .less
 
 loop-again : tie.Need-loop-again Inv-loop μ-loop
 loop-again c =
-    let m = c .before .before .before in
+    let m = c .before .before in
     let r = m .before .before in
     let g = r .before in
     let l = g .before in
     let x = l .before .before in
     let s = x .before .before .before .before .before in
     let a = s .args in
-    let p : ℕ = l .lowest2 .result in
-    let t = step l (c .without .result) (c .without .ensures) in
+    let p : ℕ = l .take-lowest .result .lowest in
+    let t = l .take-lowest .ensures in
     let n : r .rank-at .result ≡ rank (put s p) = r .rank-at .ensures ∙ ap (λ (q : ℕ). rank (put s q)) (g .go-to .ensures .0) in (
-      marking-more (a .start) (λ q. put s q ∷ []) (a .tablebase .now) (a .points) (x .loop .tablebase) (x .loop .left) p (c .without .result) _
+      marking-more (a .part .start) (λ q. put s q ∷ []) (a .tablebase .now) (a .points) (x .loop .tablebase) (x .loop .left) p (l .take-lowest .result .rest) _
           (x .loop .inv .0) t
-          (m .mark-entry .ensures ∙ sym (mark-is (a .start + r .rank-at .result) (x .loop .tablebase))
-          ∙ ap (λ (i : ℕ). markAt (a .start + i) (x .loop .tablebase)) n ∙ sym (marked-one (a .start + rank (put s p)) (x .loop .tablebase))),
+          (m .mark-entry .ensures ∙ sym (mark-is (a .part .start + r .rank-at .result) (x .loop .tablebase))
+          ∙ ap (λ (i : ℕ). markAt (a .part .start + i) (x .loop .tablebase)) n ∙ sym (marked-one (a .part .start + rank (put s p)) (x .loop .tablebase))),
       g .go-to .ensures .1,
-      λ q e. omega (
-        arith,
-        g .go-to .ensures .0,
-        l .lowest2 .ensures .0,
-        lowest-least (x .loop .left) q (x .loop .inv .0 .within) (l .before .loop-test .taken) (t .among q e),
-      ),
+      λ q e. omega (arith, g .go-to .ensures .0, t .least q (t .among q e)),
     )
 
 same-length : tie.Need-same-length Inv-loop μ-loop
@@ -167,12 +150,12 @@ same-length c = c .before .loop .inv .0 .long
 
 -- with one board from each point, all are marked
 all : (s : tie.Start Inv-loop μ-loop) (new : List ℕ) (left : ℕ)
-    → Marking (s .args .start) (λ p. put s p ∷ []) (s .args .tablebase .now) (s .args .points) new left → left ≡ 0
-    → new ≡ marked (places (s .args .start) (map (put s) (elements 32 (s .args .points)))) (s .args .tablebase .now)
+    → Marking (s .args .part .start) (λ p. put s p ∷ []) (s .args .tablebase .now) (s .args .points) new left → left ≡ 0
+    → new ≡ marked (places (s .args .part .start) (map (put s) (elements 32 (s .args .points)))) (s .args .tablebase .now)
 all s new left w z =
     let a = s .args in
-    marking-all (a .start) (λ p. put s p ∷ []) (a .tablebase .now) (a .points) new left w z
-    ∙ ap (λ (l : List (List ℕ)). marked (places (a .start) l) (a .tablebase .now)) (each-one (put s) (elements 32 (a .points)))
+    marking-all (a .part .start) (λ p. put s p ∷ []) (a .tablebase .now) (a .points) new left w z
+    ∙ ap (λ (l : List (List ℕ)). marked (places (a .part .start) l) (a .tablebase .now)) (each-one (put s) (elements 32 (a .points)))
 
 returns : tie.Need-returns Inv-loop μ-loop
 returns c =
@@ -183,7 +166,7 @@ returns-2 : tie.Need-returns-2 Inv-loop μ-loop
 returns-2 c =
     let s = c .before .before in
     let a = s .args in
-    all s (a .tablebase .now) (a .points) (marking-none (a .start) (λ p. put s p ∷ []) (a .tablebase .now) (a .points) (s .fits .points .fits)) (c .if1 .left)
+    all s (a .tablebase .now) (a .points) (marking-none (a .part .start) (λ p. put s p ∷ []) (a .tablebase .now) (a .points) (s .fits .points .fits)) (c .if1 .left)
 
 pub mark-put-spec : {M : Type 1} → statement M
 mark-put-spec =
@@ -195,13 +178,12 @@ mark-put-spec =
     lowest-requires
     begin-requires
     loop-holds
-    lowest-requires-2
+    take-lowest-requires
     mul-go-to
     go-to-requires
     mul-rank-at
     rank-at-requires
     mark-entry-requires
-    without-requires
     loop-less
     loop-again
     same-length

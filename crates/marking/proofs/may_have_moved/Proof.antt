@@ -16,14 +16,14 @@ returns : tie.Need-returns
 returns c =
     let s = c .before .before in
     let a = s .args in
-    c .in-mill .ensures ∙ sym (moved-mill (a .rings) (a .position) (s .pre .1 .0) (a .to))
+    c .in-mill .ensures ∙ sym (moved-mill (a .rings) (a .position) (s .pre .0 .placed) (a .to))
     ∙ ap (λ (b : Bool). mayHaveMoved b (a .rings) (boardOf (8 * a .rings) (a .position)) (a .to)) (sym (c .before .if1 .taken))
 
 returns-2 : tie.Need-returns-2
 returns-2 c =
     let s = c .before in
     let a = s .args in
-    sym (moved-any (a .rings) (a .position) (s .pre .1 .0) (a .to))
+    sym (moved-any (a .rings) (a .position) (s .pre .0 .placed) (a .to))
     ∙ ap (λ (b : Bool). mayHaveMoved b (a .rings) (boardOf (8 * a .rings) (a .position)) (a .to)) (sym (c .if1 .left))
 
 pub may-have-moved-spec : {M : Type 1} → statement M

@@ -32,8 +32,8 @@ unfolding filledPart
 returns c =
     let s = c .before .before .before .before .before in
     let xs : List ℕ = s .args .tablebase .now in
-    let a : ℕ = s .args .start in
-    let e : ℕ = s .args .end in
+    let a : ℕ = s .args .part .start in
+    let e : ℕ = s .args .part .end in
     ap (putMid a (e - a) xs) (c .before .before .fill .ensures ∙ ap (λ (n : ℕ). replicate n (s .args .v)) (mid-len a e xs (s .pre .1)))
     ∙ ap (λ (l : List ℕ). take a xs ++ (replicate (e - a) (s .args .v) ++ l)) (post-is a e xs (s .pre .0))
 

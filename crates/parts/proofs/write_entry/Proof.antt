@@ -29,9 +29,9 @@ returns : tie.Need-returns
 returns c =
     let s = c .before .before .before .before .before in
     let a = s .args in
-    let l = mid-len (a .start) (a .end) (a .tablebase .now) (s .pre .1) in
-    ap (putMid (a .start) (a .end - a .start) (a .tablebase .now)) (c .before .before .write .ensures)
-    ∙ set-mid-at (a .start) (a .end - a .start) (a .r) (a .tablebase .now) (a .v) (omega (arith, l, s .pre .0))
+    let l = mid-len (a .part .start) (a .part .end) (a .tablebase .now) (s .pre .1) in
+    ap (putMid (a .part .start) (a .part .end - a .part .start) (a .tablebase .now)) (c .before .before .write .ensures)
+    ∙ set-mid-at (a .part .start) (a .part .end - a .part .start) (a .r) (a .tablebase .now) (a .v) (omega (arith, l, s .pre .0))
 
 pub write-entry-spec : {M : Type 1} → statement M
 write-entry-spec =
