@@ -7,13 +7,12 @@ ghost use lib.Dec.{eqb, ltb};
 ghost use lib.ListN.{length};
 ghost use Rattle.lists.specs.Lists.{any, member};
 ghost use Rattle.board.specs.Board.{count, boardOf};
-ghost use Rattle.sizes.specs.Binomial.{BinomialTable};
 ghost use Rattle.rules.specs.Ply.{removable, listedMoves, successors};
 ghost use Rattle.game.specs.Game.{voidEntry};
-ghost use Rattle.plies.specs.Masks.{NeighbourMasks, MillMasks};
-ghost use Rattle.plies.specs.Positions.{Placed};
-ghost use Rattle.probing.specs.Probes.{probe, Reads};
+ghost use Rattle.probing.specs.Questions.{Probing};
+ghost use Rattle.bestmove.specs.Choosing.{Told, Choosing};
 ghost use Rattle.bestmove.specs.Best.{bestEntry, bestMove, entryBy, worth};
+use probing::Starts;
 use probing::VOID;
 
 // The entry of a draw, and its worth.
@@ -58,16 +57,13 @@ fn with_entry(
     tablebase: &[u16],
     binomials: &[u32; 625],
     rings: usize,
-    same: usize,
-    fewer: usize,
+    starts: Starts,
     position: board::Position,
     number: u16,
 ) -> Best
-    requires { ⌜ BinomialTable (now binomials) ⌝ }
-    requires { ⌜ Placed rings position ⌝ }
-    requires { ⌜ Reads (length (now tablebase)) (8 * rings) (count 1 (boardOf (8 * rings) position)) (count 2 (boardOf (8 * rings) position)) same fewer ⌝ }
+    requires { ⌜ Probing (now binomials) (length (now tablebase)) rings starts position ⌝ }
     requires { ⌜ member number (listedMoves rings (boardOf (8 * rings) position)) ≡ true ⌝ }
-    ensures { λ r. ⌜ (r .number ≡ number) × (r .entry ≡ entryBy (now (tablebase .entry)) same fewer (boardOf (8 * rings) position) number) ⌝ }
+    ensures { λ r. ⌜ (r .number ≡ number) × (r .entry ≡ entryBy (now (tablebase .entry)) (starts .same) (starts .fewer) (boardOf (8 * rings) position) number) ⌝ }
 {
     Best {
         number: number,
@@ -75,8 +71,7 @@ fn with_entry(
             tablebase,
             binomials,
             rings,
-            same,
-            fewer,
+            starts,
             position,
             number as usize,
         ),
@@ -88,26 +83,21 @@ fn best_of(
     tablebase: &[u16],
     binomials: &[u32; 625],
     rings: usize,
-    same: usize,
-    fewer: usize,
+    starts: Starts,
     position: board::Position,
     moves: &[u16],
 ) -> Best
-    requires { ⌜ BinomialTable (now binomials) ⌝ }
-    requires { ⌜ Placed rings position ⌝ }
-    requires { ⌜ Reads (length (now tablebase)) (8 * rings) (count 1 (boardOf (8 * rings) position)) (count 2 (boardOf (8 * rings) position)) same fewer ⌝ }
-    requires { ⌜ any (λ b. eqb (probe (now tablebase) same fewer (count 2 (boardOf (8 * rings) position)) b) voidEntry)
-        (successors (λ n c. removable n c) rings (boardOf (8 * rings) position)) ≡ false ⌝ }
+    requires { ⌜ Told (now tablebase) (now binomials) rings starts position ⌝ }
     requires { ⌜ (1 ≤ length (now moves)) × (now moves ≡ listedMoves rings (boardOf (8 * rings) position)) ⌝ }
-    ensures number { λ r. ⌜ r .number ≡ bestMove (λ m. entryBy (now (tablebase .entry)) same fewer (boardOf (8 * rings) position) m)
+    ensures number { λ r. ⌜ r .number ≡ bestMove (λ m. entryBy (now (tablebase .entry)) (starts .same) (starts .fewer) (boardOf (8 * rings) position) m)
         (listedMoves rings (boardOf (8 * rings) position)) ⌝ }
-    ensures entry { λ r. ⌜ r .entry ≡ bestEntry (map (λ m. entryBy (now (tablebase .entry)) same fewer (boardOf (8 * rings) position) m)
+    ensures entry { λ r. ⌜ r .entry ≡ bestEntry (map (λ m. entryBy (now (tablebase .entry)) (starts .same) (starts .fewer) (boardOf (8 * rings) position) m)
         (listedMoves rings (boardOf (8 * rings) position))) ⌝ }
 {
-    let mut best = with_entry(tablebase, binomials, rings, same, fewer, position, moves[0]);
+    let mut best = with_entry(tablebase, binomials, rings, starts, position, moves[0]);
     let mut i = 1;
     while i < moves.len() {
-        let next = with_entry(tablebase, binomials, rings, same, fewer, position, moves[i]);
+        let next = with_entry(tablebase, binomials, rings, starts, position, moves[i]);
         best = better(best, next);
         i += 1;
     }
@@ -118,36 +108,26 @@ fn best_of(
 pub fn best_move(
     tablebase: &[u16],
     binomials: &[u32; 625],
-    near: &[u32; 24],
-    mills: &[u32; 48],
+    masks: &[u32; 72],
     rings: usize,
-    same: usize,
-    fewer: usize,
+    starts: Starts,
     position: board::Position,
 ) -> Best
-    requires { ⌜ BinomialTable (now binomials) ⌝ }
-    requires { ⌜ NeighbourMasks rings (now near) ⌝ }
-    requires { ⌜ MillMasks rings (now mills) ⌝ }
-    requires { ⌜ Placed rings position ⌝ }
-    requires { ⌜ Reads (length (now tablebase)) (8 * rings) (count 1 (boardOf (8 * rings) position)) (count 2 (boardOf (8 * rings) position)) same fewer ⌝ }
-    requires { ⌜ any (λ b. eqb (probe (now tablebase) same fewer (count 2 (boardOf (8 * rings) position)) b) voidEntry)
-        (successors (λ n c. removable n c) rings (boardOf (8 * rings) position)) ≡ false ⌝ }
-    requires { ⌜ 1 ≤ length (listedMoves rings (boardOf (8 * rings) position)) ⌝ }
-    requires { ⌜ (count 1 (boardOf (8 * rings) position) ≤ 9) × (1 ≤ count 2 (boardOf (8 * rings) position)) × (count 2 (boardOf (8 * rings) position) ≤ 9) ⌝ }
-    ensures number { λ r. ⌜ r .number ≡ bestMove (λ m. entryBy (now (tablebase .entry)) same fewer (boardOf (8 * rings) position) m)
+    requires { ⌜ Told (now tablebase) (now binomials) rings starts position ⌝ }
+    requires { ⌜ Choosing rings (now masks) position ⌝ }
+    ensures number { λ r. ⌜ r .number ≡ bestMove (λ m. entryBy (now (tablebase .entry)) (starts .same) (starts .fewer) (boardOf (8 * rings) position) m)
         (listedMoves rings (boardOf (8 * rings) position)) ⌝ }
-    ensures entry { λ r. ⌜ r .entry ≡ bestEntry (map (λ m. entryBy (now (tablebase .entry)) same fewer (boardOf (8 * rings) position) m)
+    ensures entry { λ r. ⌜ r .entry ≡ bestEntry (map (λ m. entryBy (now (tablebase .entry)) (starts .same) (starts .fewer) (boardOf (8 * rings) position) m)
         (listedMoves rings (boardOf (8 * rings) position))) ⌝ }
 {
     let mut list = [0u16; MOVES_MAX];
-    plies::list_moves(rings, near, mills, position, &mut list);
-    let count = plies::count_moves(rings, near, mills, position);
+    plies::list_moves(rings, masks, position, &mut list);
+    let count = plies::count_moves(rings, masks, position);
     best_of(
         tablebase,
         binomials,
         rings,
-        same,
-        fewer,
+        starts,
         position,
         &list[..count],
     )

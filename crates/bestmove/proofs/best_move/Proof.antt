@@ -22,10 +22,11 @@ listed c = listedMoves (c .args .rings) (boardOf (8 * c .args .rings) (c .args .
 enough : (c : tie.Start) → length (listed c) ≤ 324
 enough c =
     let a = c .args in
-    let p = c .pre .1 .1 .1 in
-    let k = p .1 .1 .1 .1 in
+    let p = c .pre .0 .probing .placed in
+    let k = c .pre .1 in
     let n : ℕ = 8 * a .rings in
-    moves-bound (a .rings) (p .0 .small) (boardOf n (a .position)) (length-board n (a .position)) (board-values n (a .position) (p .0 .on)) (k .0) (k .1) (k .2)
+    moves-bound (a .rings) (p .small) (boardOf n (a .position)) (length-board n (a .position)) (board-values n (a .position) (p .on)) (k .mover-most) (k .opponent-least)
+    (k .opponent-most)
 
 -- its first places hold them
 filled : (c : tie.Start) (list : List ℕ) (n : ℕ) → list ≡ sets (replicate {A = ℕ} 324 0) 0 (listed c) → n ≡ length (listed c) → take n list ≡ listed c
@@ -37,7 +38,7 @@ slice-aggregate-list-moves c = search needs
 list-moves-requires : tie.Need-list-moves-requires
 list-moves-requires c κs =
     let s = c .before .before in
-    (s .pre .1 .0, (s .pre .1 .1 .0, (s .pre .1 .1 .1 .0, enough s)))
+    (record { masks = s .pre .1 .masks; placed = s .pre .0 .probing .placed }, enough s)
 
 count-moves-requires : tie.Need-count-moves-requires
 count-moves-requires c κs = search needs
@@ -58,9 +59,8 @@ best-of-requires : tie.Need-best-of-requires
 best-of-requires c κs =
     let m = c .before .before .before in
     let s = m .before .before .before in
-    let p = s .pre .1 .1 .1 in
     let f = filled s _ _ (m .list-moves .ensures) (c .before .count-moves .ensures) in
-    (s .pre .0, (p .0, (p .1 .0, (p .1 .1 .0, (omega (arith, ap length f, p .1 .1 .1 .0), f)))))
+    (s .pre .0, (omega (arith, ap length f, s .pre .1 .some), f))
 
 returns : tie.Need-returns
 returns c = search needs

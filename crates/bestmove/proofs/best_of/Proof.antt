@@ -18,30 +18,30 @@ use Rattle.bestmove.proofs.best_of.Statement.{statement}
 use Rattle.bestmove.proofs.best_of.Tie as tie
 
 abbrev Inv-loop : tie.InvT-loop
-Inv-loop tablebase binomials rings same fewer position moves best₀ i₀ best i =
-    (i ≤ length moves) × Running (λ m. entryBy tablebase same fewer (boardOf (8 * rings) position) m) moves i best
+Inv-loop tablebase binomials rings starts position moves best₀ i₀ best i =
+    (i ≤ length moves) × Running (λ m. entryBy tablebase (starts .same) (starts .fewer) (boardOf (8 * rings) position) m) moves i best
 
 abbrev μ-loop : tie.MeasureT-loop
-μ-loop tablebase binomials rings same fewer position moves best₀ i₀ best i = length moves - i
+μ-loop tablebase binomials rings starts position moves best₀ i₀ best i = length moves - i
 
 -- each place holds a listed move
 listed : (c : tie.Start Inv-loop μ-loop) (i : ℕ) → i < length (c .args .moves .now)
     → member (getD (c .args .moves .now) i 0) (listedMoves (c .args .rings) (boardOf (8 * c .args .rings) (c .args .position))) ≡ true
 listed c i h =
-    is-member _ _ (subst (λ (l : List ℕ). List·Memᴰ (getD (c .args .moves .now) i 0) l) (c .pre .1 .1 .1 .1 .1) (getD-member (c .args .moves .now) i h))
+    is-member _ _ (subst (λ (l : List ℕ). List·Memᴰ (getD (c .args .moves .now) i 0) l) (c .pre .1 .1) (getD-member (c .args .moves .now) i h))
 
 shared-slice-read-with-entry : tie.Need-shared-slice-read-with-entry Inv-loop μ-loop
-shared-slice-read-with-entry c = c .before .before .before .pre .1 .1 .1 .1 .0
+shared-slice-read-with-entry c = c .before .before .before .pre .1 .0
 
 with-entry-requires : tie.Need-with-entry-requires Inv-loop μ-loop
 with-entry-requires c κs =
     let s = c .before .before .before in
-    (s .pre .0, (s .pre .1 .0, (s .pre .1 .1 .0, listed s 0 (s .pre .1 .1 .1 .1 .0))))
+    (s .pre .0 .probing, listed s 0 (s .pre .1 .0))
 
 loop-holds : tie.Need-loop-holds Inv-loop μ-loop
 loop-holds c =
     let e = c .with-entry .ensures in
-    (c .before .before .before .before .pre .1 .1 .1 .1 .0, running-none _ _ (c .with-entry .result) (e .0) (e .1))
+    (c .before .before .before .before .pre .1 .0, running-none _ _ (c .with-entry .result) (e .0) (e .1))
 
 mul-with-entry : tie.Need-mul-with-entry Inv-loop μ-loop
 mul-with-entry c = search needs
@@ -53,7 +53,7 @@ with-entry-requires-2 : tie.Need-with-entry-requires-2 Inv-loop μ-loop
 with-entry-requires-2 c κs =
     let x = c .before .before in
     let s = x .before .before .before .before .before in
-    (s .pre .0, (s .pre .1 .0, (s .pre .1 .1 .0, listed s (x .loop .i) (c .before .loop-test .taken))))
+    (s .pre .0 .probing, listed s (x .loop .i) (c .before .loop-test .taken))
 
 better-requires : tie.Need-better-requires Inv-loop μ-loop
 better-requires c κs = search needs
@@ -82,10 +82,10 @@ returns c =
     let s = k .before in
     let a = s .args in
     let b : List ℕ = boardOf (8 * a .rings) (a .position) in
-    let f : ℕ → ℕ = λ m. entryBy (a .tablebase .now) (a .same) (a .fewer) b m in
-    let same : a .moves .now ≡ listedMoves (a .rings) b = s .pre .1 .1 .1 .1 .1 in
-    let r = running-all f (a .moves .now) (x .loop .i) (x .loop .best) (omega (arith, x .loop .inv .0, c .loop-test .left)) (s .pre .1 .1 .1 .1 .0)
-    (λ m i. moves-told (a .tablebase .now) (λ j. omega (arith, k .shared-slice-known .given j)) (a .same) (a .fewer) (a .rings) b (s .pre .1 .1 .1 .0) m
+    let f : ℕ → ℕ = λ m. entryBy (a .tablebase .now) (a .starts .same) (a .starts .fewer) b m in
+    let same : a .moves .now ≡ listedMoves (a .rings) b = s .pre .1 .1 in
+    let r = running-all f (a .moves .now) (x .loop .i) (x .loop .best) (omega (arith, x .loop .inv .0, c .loop-test .left)) (s .pre .1 .0)
+    (λ m i. moves-told (a .tablebase .now) (λ j. omega (arith, k .shared-slice-known .given j)) (a .starts .same) (a .starts .fewer) (a .rings) b (s .pre .0 .told) m
     (subst (λ (l : List ℕ). List·Memᴰ m l) same i)) (x .loop .inv .1) in
     (r .0 ∙ ap (bestMove f) same, r .1 ∙ ap (λ (l : List ℕ). bestEntry (map f l)) same)
 
