@@ -1,24 +1,30 @@
 // The images of a position, one after the other.
 ghost use mathlib.Core.Path.{_≡_};
-ghost use Prim.Native.Nat.{_+_, _*_, _≤_, _<_};
+ghost use Prim.Native.Nat.{_*_};
 ghost use lib.ListN.{length};
-ghost use Rattle.board.specs.Board.{count, boardOf, OnBoard};
-ghost use Rattle.sizes.specs.Size.{size};
-ghost use Rattle.sizes.specs.Binomial.{BinomialTable};
-ghost use Rattle.imaging.specs.Images.{RingImages, leastOfClass, imagesWritten};
+ghost use Rattle.board.specs.Board.{boardOf};
+ghost use Rattle.imaging.specs.Images.{leastOfClass, imagesWritten};
+ghost use Rattle.imaging.specs.Conditions.{Imaging, InTable};
 use super::positions::image_of;
 use super::positions::image_set;
+use parts::Part;
+
+// The rings of a board, and how many of its symmetries make a class.
+pub struct Maps {
+    pub rings: usize,
+    pub count: usize,
+}
 
 // Whether no image of a position has a lower number. The first symmetry changes nothing.
-pub fn is_least(images: &[u8; 2048], rings: usize, maps: usize, position: board::Position) -> bool
-    requires { ⌜ RingImages (now images) ⌝ }
-    requires { ⌜ (rings ≤ 3) × (maps ≤ 16) × OnBoard (8 * rings) position ⌝ }
-    ensures { λ r. ⌜ r ≡ leastOfClass rings maps (boardOf (8 * rings) position) ⌝ }
+pub fn is_least(images: &[u8; 2048], maps: Maps, position: board::Position) -> bool
+    requires { ⌜ Imaging (now images) maps position ⌝ }
+    ensures { λ r. ⌜ r ≡ leastOfClass (maps .rings) (maps .count) (boardOf (8 * maps .rings) position) ⌝ }
 {
+    let count = maps.count;
     let own = position.mover;
     let mut g = 1;
-    while g < maps {
-        if image_set(images, rings, g, own) < own {
+    while g < count {
+        if image_set(images, maps.rings, g, own) < own {
             return false;
         }
         g += 1;
@@ -31,24 +37,23 @@ pub fn write_images(
     tablebase: &mut [u16],
     binomials: &[u32; 625],
     images: &[u8; 2048],
-    rings: usize,
-    maps: usize,
-    start: usize,
-    end: usize,
+    maps: Maps,
+    part: Part,
     position: board::Position,
     entry: u16,
 )
-    requires { ⌜ BinomialTable (now binomials) ⌝ }
-    requires { ⌜ RingImages (now images) ⌝ }
-    requires { ⌜ (rings ≤ 3) × (maps ≤ 16) × OnBoard (8 * rings) position × (end ≤ length (now tablebase))
-        × (end ≡ start + size (8 * rings) (count 1 (boardOf (8 * rings) position)) (count 2 (boardOf (8 * rings) position))) ⌝ }
-    ensures { λ _. ⌜ now (tablebase .exit) ≡ imagesWritten rings start (boardOf (8 * rings) position) entry (now (tablebase .entry)) maps ⌝ }
+    requires { ⌜ Imaging (now images) maps position ⌝ }
+    requires { ⌜ InTable (now binomials) (length (now tablebase)) (maps .rings) part position ⌝ }
+    ensures { λ _. ⌜ now (tablebase .exit)
+        ≡ imagesWritten (maps .rings) (part .start) (boardOf (8 * maps .rings) position) entry (now (tablebase .entry)) (maps .count) ⌝ }
 {
+    let count = maps.count;
+    let points = 8 * maps.rings;
     let mut written = 0;
-    while written < maps {
-        let turned = image_of(images, rings, written, position);
-        let r = ranking::rank(binomials, 8 * rings, turned);
-        parts::write_entry(tablebase, start, end, r, entry);
+    while written < count {
+        let turned = image_of(images, maps.rings, written, position);
+        let r = ranking::rank(binomials, points, turned);
+        parts::write_entry(tablebase, part, r, entry);
         written += 1;
     }
 }

@@ -3,6 +3,7 @@ mod classes;
 mod positions;
 mod rings;
 
+pub use classes::Maps;
 pub use classes::is_least;
 pub use classes::write_images;
 pub use positions::image_of;

@@ -15,21 +15,21 @@ use Rattle.imaging.proofs.classes.is_least.Statement.{statement}
 use Rattle.imaging.proofs.classes.is_least.Tie as tie
 
 abbrev Inv-loop : tie.InvT-loop
-Inv-loop images rings maps own g₀ g =
-    (p : Position) → OnBoard (8 * rings) p → own ≡ p .mover → NoLower rings maps (boardOf (8 * rings) p) g
+Inv-loop images maps count own g₀ g =
+    (p : Position) → OnBoard (8 * maps .rings) p → own ≡ p .mover → NoLower (maps .rings) count (boardOf (8 * maps .rings) p) g
 
 abbrev μ-loop : tie.MeasureT-loop
-μ-loop images rings maps own g₀ g = maps - g
+μ-loop images maps count own g₀ g = count - g
 
 loop-holds : tie.Need-loop-holds Inv-loop μ-loop
-loop-holds c = let a = c .args in λ p w e. first-no-lower (a .rings) (a .maps) (boardOf (8 * a .rings) p)
+loop-holds c = let a = c .args in λ p w e. first-no-lower (a .maps .rings) (a .maps .count) (boardOf (8 * a .maps .rings) p)
 
 image-set-requires : tie.Need-image-set-requires Inv-loop μ-loop
 image-set-requires c κs =
     let s = c .before .before in
     let a = s .args in
-    let p = s .pre .1 in
-    (s .pre .0, (p .0, omega (arith, p .1, c .loop-test .taken), p .2 .mover-within, within-all (a .rings) _ (p .0) (p .2 .mover-within)))
+    let p = s .pre in
+    (p .images, (p .small, omega (arith, p .few, c .loop-test .taken), p .on .mover-within, within-all (a .maps .rings) _ (p .small) (p .on .mover-within)))
 
 returns : tie.Need-returns Inv-loop μ-loop
 returns c =
@@ -37,11 +37,11 @@ returns c =
     let x = i .before .before in
     let s = x .before in
     let a = s .args in
-    let p = s .pre .1 in
+    let p = s .pre in
     let t = i .before .loop-test .taken in
-    let e = number-image (a .rings) (p .0) (x .loop .g) (omega (arith, p .1, t)) (a .position) (p .2) (i .image-set .result) (i .image-set .ensures) in
-    one-lower (a .rings) (a .maps) (boardOf (8 * a .rings) (a .position)) (x .loop .g) t
-    (omega (arith, e, c .if1 .taken, mover-set (8 * a .rings) (a .position) (p .2)))
+    let e = number-image (a .maps .rings) (p .small) (x .loop .g) (omega (arith, p .few, t)) (a .position) (p .on) (i .image-set .result) (i .image-set .ensures) in
+    one-lower (a .maps .rings) (a .maps .count) (boardOf (8 * a .maps .rings) (a .position)) (x .loop .g) t
+    (omega (arith, e, c .if1 .taken, mover-set (8 * a .maps .rings) (a .position) (p .on)))
 
 add-g : tie.Need-add-g Inv-loop μ-loop
 add-g c = search needs
@@ -55,17 +55,17 @@ loop-again c =
     let x = i .before .before in
     let s = x .before in
     let a = s .args in
-    let p = s .pre .1 in
+    let p = s .pre in
     let t = i .before .loop-test .taken in
-    λ q w f. below-more (λ (h : ℕ). number (boardOf (8 * a .rings) q) ≤ number (image (a .rings) h (boardOf (8 * a .rings) q))) (x .loop .g)
+    λ q w f. below-more (λ (h : ℕ). number (boardOf (8 * a .maps .rings) q) ≤ number (image (a .maps .rings) h (boardOf (8 * a .maps .rings) q))) (x .loop .g)
     (x .loop .inv q w f)
     (omega (
       arith,
       c .if1 .left,
-      mover-set (8 * a .rings) q w,
+      mover-set (8 * a .maps .rings) q w,
       f,
-      number-image (a .rings) (p .0) (x .loop .g) (omega (arith, p .1, t)) q w (i .image-set .result)
-          (subst (λ (m : ℕ). ImageSet (a .rings) (x .loop .g) m (i .image-set .result)) f (i .image-set .ensures)),
+      number-image (a .maps .rings) (p .small) (x .loop .g) (omega (arith, p .few, t)) q w (i .image-set .result)
+          (subst (λ (m : ℕ). ImageSet (a .maps .rings) (x .loop .g) m (i .image-set .result)) f (i .image-set .ensures)),
     ))
 
 returns-2 : tie.Need-returns-2 Inv-loop μ-loop
@@ -73,7 +73,7 @@ returns-2 c =
     let x = c .before in
     let s = x .before in
     let a = s .args in
-    no-lower (a .rings) (a .maps) (boardOf (8 * a .rings) (a .position)) (λ h l. x .loop .inv (a .position) (s .pre .1 .2) refl h (omega arith))
+    no-lower (a .maps .rings) (a .maps .count) (boardOf (8 * a .maps .rings) (a .position)) (λ h l. x .loop .inv (a .position) (s .pre .on) refl h (omega arith))
 
 pub is-least-spec : {M : Type 1} → statement M
 is-least-spec =
