@@ -16,6 +16,11 @@ use Rattle.probing.specs.declared.asking.Stone.{Stone}
 use Rattle.probing.specs.declared.entries.Starts.{Starts}
 use Rattle.probing.specs.Probes.{probe, Left, Reads, asked}
 
+-- the tables that a call makes and lends
+pub record Lent (rings : ℕ) (lent lent-masks : List ℕ) : Type 0 where
+  pub binomials : BinomialTable lent
+  pub masks : Masks rings lent-masks
+
 -- a position, the lent binomials, and the tables of its successors, which lie within a tablebase of a length
 pub record Probing (lent : List ℕ) (length rings : ℕ) (starts : Starts) (position : Position) : Type 0 where
   pub binomials : BinomialTable lent

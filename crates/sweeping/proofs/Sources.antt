@@ -22,12 +22,17 @@ pub lower-before : (t : Table) → 3 ≤ t .opponent → Before t (lowerSource t
 lower-before t h = record { mover-is = refl; opponent-is = omega arith }
 
 -- the table before has room for the boards before a position of s
-pub room-before : (rings n : ℕ) (t : Table) (s : Source) (capture : Bool) → Before t s capture → Lies (8 * rings) t n → (r : ℕ)
+pub room-before : (rings n : ℕ) (s : Source) (capture : Bool) (start end : ℕ)
+    → Room (8 * rings) (s .opponent) (s .mover + digit capture) start end n → (r : ℕ)
     → r < size (8 * rings) (s .mover) (s .opponent) → (c : List ℕ) → c ≡ unrank (8 * rings) (s .mover) (s .opponent) r
-    → Room (8 * rings) (count 2 c) (count 1 c + digit capture) (t .own .start) (t .own .end) n
-room-before rings n t s capture leads w r h c e =
+    → Room (8 * rings) (count 2 c) (count 1 c + digit capture) start end n
+room-before rings n s capture start end w r h c e =
     let i = unrank-in rings (s .mover) (s .opponent) r h in
-    let m : count 2 c ≡ t .mover = ap (count 2) e ∙ i .opponent ∙ leads .mover-is in
-    let o : count 1 c + digit capture ≡ t .opponent = ap (λ (b : List ℕ). count 1 b + digit capture) e ∙ ap (λ (k : ℕ). k + digit capture) (i .mover)
-    ∙ leads .opponent-is in
+    let m : count 2 c ≡ s .opponent = ap (count 2) e ∙ i .opponent in
+    let o : count 1 c ≡ s .mover = ap (count 1) e ∙ i .mover in
     rw (m, o) w
+
+-- and so has a table for those before the tables that its plies lead to
+pub room-of : (rings n : ℕ) (t : Table) (s : Source) (capture : Bool) → Before t s capture → Lies (8 * rings) t n
+    → Room (8 * rings) (s .opponent) (s .mover + digit capture) (t .own .start) (t .own .end) n
+room-of rings n t s capture leads w = rw (leads .mover-is, leads .opponent-is) w

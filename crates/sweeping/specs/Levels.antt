@@ -8,12 +8,15 @@ use lib.ListN.{getD, set}
 use Rattle.lists.specs.Lists.{isEmpty}
 use Rattle.sizes.specs.Size.{size}
 use Rattle.ranking.specs.Unrank.{unrank}
-use Rattle.game.specs.Game.{drawEntry}
+use Rattle.game.specs.Game.{drawEntry, voidEntry}
 use Rattle.game.specs.Judgement.{decided}
 use Rattle.outcomes.specs.Whole.{next}
 use Rattle.probing.specs.Probes.{probe, Reads}
 use Rattle.marking.specs.Stones.{Room}
+use Rattle.imaging.specs.declared.classes.Maps.{Maps}
+use Rattle.imaging.specs.Images.{RingImages}
 use Rattle.sweeping.specs.declared.tables.Table.{Table}
+use Rattle.sweeping.specs.declared.tables.Sweep.{Sweep}
 
 -- table t lies within a tablebase of a length
 abbrev pub Lies : ℕ → Table → ℕ → Type 0
@@ -25,6 +28,19 @@ pub record Fits (length rings : ℕ) (t : Table) (same : ℕ) : Type 0 where
   pub end-is : t .own .end ≡ t .own .start + size (8 * rings) (t .mover) (t .opponent)
   pub room : t .own .end ≤ length
   pub reads : Reads length (8 * rings) (t .mover) (t .opponent) same (t .lower .start)
+
+-- the counts of a table, three to the opponent at least
+pub record Counted (t : Table) : Type 0 where
+  pub mover-most : t .mover ≤ 24
+  pub opponent-least : 3 ≤ t .opponent
+  pub opponent-most : t .opponent ≤ 24
+
+-- a level over a table by classes: the lent images, how many maps make a class, and that the tables fit
+pub record Sweeping (lent : List ℕ) (length : ℕ) (maps : Maps) (sweep : Sweep) : Type 0 where
+  pub images : RingImages lent
+  pub few : maps .count ≤ 16
+  pub fits : Fits length (maps .rings) (sweep .table) (sweep .same)
+  pub level-low : sweep .level < voidEntry
 
 -- an open position of rank r: neither a depth nor void stands there
 unfoldable pub isOpen : Table → List ℕ → ℕ → Bool

@@ -6,17 +6,22 @@ use mathlib.Core.List.{List}
 use Prim.Native.Nat.{ℕ, zero, suc, _+_, _-_, _*_, _≤_, _<_}
 use lib.Dec.{eqb, ltb}
 use lib.ListN.{getD, set}
-use Rattle.board.specs.Board.{digit}
+use Rattle.board.specs.Board.{digit, positionOf}
 use Rattle.sizes.specs.Size.{size}
 use Rattle.ranking.specs.Unrank.{unrank}
 use Rattle.rules.specs.Predecessors.{predecessors}
 use Rattle.game.specs.Game.{drawEntry, voidEntry}
 use Rattle.game.specs.Judgement.{hit}
 use Rattle.outcomes.specs.Whole.{next}
-use Rattle.imaging.specs.Images.{imagesWritten}
+use Rattle.imaging.specs.declared.classes.Maps.{Maps}
+use Rattle.imaging.specs.Images.{RingImages, imagesWritten}
+use Rattle.marking.specs.declared.Back.{Back}
 use Rattle.marking.specs.Marks.{marked, places}
+use Rattle.marking.specs.Stones.{Room}
 use Rattle.sweeping.specs.declared.tables.Table.{Table}
 use Rattle.sweeping.specs.declared.marks.Source.{Source}
+use Rattle.sweeping.specs.declared.marks.Layer.{Layer}
+use Rattle.sweeping.specs.declared.cursor.Cursor.{Cursor}
 use Rattle.sweeping.specs.Levels.{ranked, judged}
 
 -- the tables that plies from t lead to: without a removal, and with one
@@ -34,6 +39,16 @@ pub record Before (t : Table) (s : Source) (capture : Bool) : Type 0 where
 -- the first n entries of s lie within a tablebase of a length; a table of movers with two stones has none
 abbrev pub Stored : Source → ℕ → ℕ → Type 0
 Stored s n length = 3 ≤ s .mover → s .start + n ≤ length
+
+-- the table before a layer and the layer lie within a tablebase of a length, with the lent images and how many maps make a class
+pub record Preceding (lent : List ℕ) (length : ℕ) (maps : Maps) (back : Back) (layer : Layer) : Type 0 where
+  pub images : RingImages lent
+  pub few : maps .count ≤ 16
+  pub room : Room (8 * maps .rings) (layer .source .opponent) (layer .source .mover + digit (back .capture)) (back .part .start) (back .part .end) length
+  pub mover-most : layer .source .mover ≤ 24
+  pub opponent-most : layer .source .opponent ≤ 24
+  pub stored : Stored (layer .source) (size (8 * maps .rings) (layer .source .mover) (layer .source .opponent)) length
+  pub depth-low : layer .depth < voidEntry
 
 -- the position of rank r has that depth; a mover with two stones has depth 0
 unfoldable pub isSource : Source → ℕ → List ℕ → ℕ → Bool
@@ -62,6 +77,12 @@ module _ (rings start : ℕ) (s : Source) (capture : Bool) (depth : ℕ) (picked
 -- a mark at rank r
 unfoldable pub isMarked : Table → List ℕ → ℕ → Bool
 isMarked t tablebase r = eqb (getD tablebase (t .own .start + r) 0) voidEntry
+
+-- the cursor stands at a marked position of a table
+pub record AtMark (rings : ℕ) (t : Table) (tablebase : List ℕ) (at : Cursor) : Type 0 where
+  pub low : at .rank < size (8 * rings) (t .mover) (t .opponent)
+  pub position-is : at .position ≡ positionOf (unrank (8 * rings) (t .mover) (t .opponent) (at .rank))
+  pub marked : isMarked t tablebase (at .rank) ≡ true
 
 module _ (rings : ℕ) (t : Table) (same level maps : ℕ) where
   -- a marked position that is hit gets the level, with all its images; one that is not is open again

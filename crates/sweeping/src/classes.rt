@@ -1,84 +1,77 @@
 // A level above 0 over a table, by classes: of the positions of the depth below one of a class is gone back from, the open positions before it are
 // marked, and each marked position is judged.
 ghost use mathlib.Core.Path.{_≡_};
-ghost use Prim.Native.Nat.{_≤_, _<_};
+ghost use Prim.Native.Nat.{_<_};
 ghost use lib.ListN.{length};
-ghost use Rattle.sizes.specs.Binomial.{BinomialTable};
-ghost use Rattle.game.specs.Game.{voidEntry};
-ghost use Rattle.plies.specs.Masks.{NeighbourMasks, MillMasks};
-ghost use Rattle.imaging.specs.Images.{RingImages, leastOfClass};
-ghost use Rattle.sweeping.specs.Levels.{Fits};
+ghost use Rattle.imaging.specs.Images.{leastOfClass};
+ghost use Rattle.probing.specs.Questions.{Lent};
+ghost use Rattle.sweeping.specs.Levels.{Counted, Sweeping};
 ghost use Rattle.sweeping.specs.Marked.{levelByClasses};
 use super::judging::judge_marked;
+use super::marks::Layer;
 use super::marks::Source;
 use super::marks::mark_table;
-use super::tables::Table;
+use super::tables::Sweep;
+use imaging::Maps;
+use marking::Back;
 
 // A level above 0 over a table.
 pub fn level_table(
     tablebase: &mut [u16],
     binomials: &[u32; 625],
-    near: &[u32; 24],
-    mills: &[u32; 48],
+    masks: &[u32; 72],
     images: &[u8; 2048],
-    rings: usize,
-    maps: usize,
-    table: Table,
-    same: usize,
-    level: u16,
+    maps: Maps,
+    sweep: Sweep,
 )
-    requires { ⌜ BinomialTable (now binomials) ⌝ }
-    requires { ⌜ NeighbourMasks rings (now near) ⌝ }
-    requires { ⌜ MillMasks rings (now mills) ⌝ }
-    requires { ⌜ Fits (length (now tablebase)) rings table same × (table .mover ≤ 24) × (3 ≤ table .opponent) × (table .opponent ≤ 24) × (0 < level)
-        × (level < voidEntry) × RingImages (now images) × (maps ≤ 16) ⌝ }
-    ensures { λ _. ⌜ now (tablebase .exit) ≡ levelByClasses rings table same level maps (leastOfClass rings maps) (now (tablebase .entry)) ⌝ }
+    requires { ⌜ Lent (maps .rings) (now binomials) (now masks) ⌝ }
+    requires { ⌜ Sweeping (now images) (length (now tablebase)) maps sweep × Counted (sweep .table) × (0 < sweep .level) ⌝ }
+    ensures { λ _. ⌜ now (tablebase .exit)
+        ≡ levelByClasses (maps .rings) (sweep .table) (sweep .same) (sweep .level) (maps .count) (leastOfClass (maps .rings) (maps .count))
+        (now (tablebase .entry)) ⌝ }
 {
+    let table = sweep.table;
+    let own = table.own;
     let lower = table.lower;
+    let depth = sweep.level - 1;
     mark_table(
         tablebase,
         binomials,
-        near,
-        mills,
+        masks,
         images,
-        rings,
         maps,
-        table,
-        Source {
-            start: same,
-            mover: table.opponent,
-            opponent: table.mover,
+        Back {
+            part: own,
+            capture: false,
         },
-        false,
-        level - 1,
+        Layer {
+            source: Source {
+                start: sweep.same,
+                mover: table.opponent,
+                opponent: table.mover,
+            },
+            depth: depth,
+        },
     );
+    let fewer = table.opponent - 1;
     mark_table(
         tablebase,
         binomials,
-        near,
-        mills,
+        masks,
         images,
-        rings,
         maps,
-        table,
-        Source {
-            start: lower.start,
-            mover: table.opponent - 1,
-            opponent: table.mover,
+        Back {
+            part: own,
+            capture: true,
         },
-        true,
-        level - 1,
+        Layer {
+            source: Source {
+                start: lower.start,
+                mover: fewer,
+                opponent: table.mover,
+            },
+            depth: depth,
+        },
     );
-    judge_marked(
-        tablebase,
-        binomials,
-        near,
-        mills,
-        images,
-        rings,
-        maps,
-        table,
-        same,
-        level,
-    );
+    judge_marked(tablebase, binomials, masks, images, maps, sweep);
 }

@@ -3,72 +3,55 @@ ghost use mathlib.Core.Path.{_≡_};
 ghost use mathlib.Core.Bool.{true};
 ghost use Prim.Native.Nat.{_+_, _-_, _*_, _≤_, _<_};
 ghost use lib.ListN.{length};
-ghost use Rattle.board.specs.Board.{positionOf};
 ghost use Rattle.sizes.specs.Size.{size};
-ghost use Rattle.sizes.specs.Binomial.{BinomialTable};
-ghost use Rattle.ranking.specs.Unrank.{unrank};
-ghost use Rattle.game.specs.Game.{voidEntry};
-ghost use Rattle.plies.specs.Masks.{NeighbourMasks, MillMasks};
 ghost use Rattle.parts.specs.Finding.{First};
-ghost use Rattle.imaging.specs.Images.{RingImages};
-ghost use Rattle.sweeping.specs.Levels.{Fits};
-ghost use Rattle.sweeping.specs.Marked.{isMarked, judgedClass, judgedFirst};
+ghost use Rattle.probing.specs.Questions.{Lent};
+ghost use Rattle.sweeping.specs.Levels.{Sweeping};
+ghost use Rattle.sweeping.specs.Marked.{AtMark, isMarked, judgedClass, judgedFirst};
 use super::cursor;
+use super::cursor::Cursor;
+use super::tables::Sweep;
 use super::tables::Table;
+use imaging::Maps;
 use parts::DRAW;
 use parts::VOID;
+use probing::Starts;
 
 // Judges the marked position of rank r.
 fn judge_place(
     tablebase: &mut [u16],
     binomials: &[u32; 625],
-    near: &[u32; 24],
-    mills: &[u32; 48],
+    masks: &[u32; 72],
     images: &[u8; 2048],
-    rings: usize,
-    maps: usize,
-    table: Table,
-    same: usize,
-    level: u16,
-    position: board::Position,
-    r: usize,
+    maps: Maps,
+    sweep: Sweep,
+    at: Cursor,
 )
-    requires { ⌜ BinomialTable (now binomials) ⌝ }
-    requires { ⌜ NeighbourMasks rings (now near) ⌝ }
-    requires { ⌜ MillMasks rings (now mills) ⌝ }
-    requires { ⌜ RingImages (now images) ⌝ }
-    requires { ⌜ Fits (length (now tablebase)) rings table same × (r < size (8 * rings) (table .mover) (table .opponent)) × (level < voidEntry) × (maps ≤ 16) ⌝ }
-    requires { ⌜ position ≡ positionOf (unrank (8 * rings) (table .mover) (table .opponent) r) ⌝ }
-    requires { ⌜ isMarked table (now tablebase) r ≡ true ⌝ }
-    ensures { λ _. ⌜ now (tablebase .exit) ≡ judgedClass rings table same level maps (now (tablebase .entry)) r ⌝ }
+    requires { ⌜ Lent (maps .rings) (now binomials) (now masks) ⌝ }
+    requires { ⌜ Sweeping (now images) (length (now tablebase)) maps sweep × AtMark (maps .rings) (sweep .table) (now tablebase) at ⌝ }
+    ensures { λ _. ⌜ now (tablebase .exit)
+        ≡ judgedClass (maps .rings) (sweep .table) (sweep .same) (sweep .level) (maps .count) (now (tablebase .entry)) (at .rank) ⌝ }
 {
+    let table = sweep.table;
     let own = table.own;
     let lower = table.lower;
+    let level = sweep.level;
     if probing::hits(
         tablebase,
         binomials,
-        near,
-        mills,
-        rings,
-        same,
-        lower.start,
+        masks,
+        maps.rings,
+        Starts {
+            same: sweep.same,
+            fewer: lower.start,
+        },
         level as u32,
-        position,
+        at.position,
     ) {
-        imaging::write_images(
-            tablebase,
-            binomials,
-            images,
-            rings,
-            maps,
-            own.start,
-            own.end,
-            position,
-            level,
-        );
+        imaging::write_images(tablebase, binomials, images, maps, own, at.position, level);
         return;
     }
-    parts::write_entry(tablebase, own.start, own.end, r, DRAW);
+    parts::write_entry(tablebase, own, at.rank, DRAW);
 }
 
 // The first marked rank from r on, or the size.
@@ -85,42 +68,25 @@ fn find_mark(tablebase: &[u16], table: Table, r: usize) -> usize
 pub fn judge_marked(
     tablebase: &mut [u16],
     binomials: &[u32; 625],
-    near: &[u32; 24],
-    mills: &[u32; 48],
+    masks: &[u32; 72],
     images: &[u8; 2048],
-    rings: usize,
-    maps: usize,
-    table: Table,
-    same: usize,
-    level: u16,
+    maps: Maps,
+    sweep: Sweep,
 )
-    requires { ⌜ BinomialTable (now binomials) ⌝ }
-    requires { ⌜ NeighbourMasks rings (now near) ⌝ }
-    requires { ⌜ MillMasks rings (now mills) ⌝ }
-    requires { ⌜ Fits (length (now tablebase)) rings table same × (level < voidEntry) × RingImages (now images) × (maps ≤ 16) ⌝ }
+    requires { ⌜ Lent (maps .rings) (now binomials) (now masks) ⌝ }
+    requires { ⌜ Sweeping (now images) (length (now tablebase)) maps sweep ⌝ }
     ensures { λ _. ⌜ now (tablebase .exit)
-        ≡ judgedFirst rings table same level maps (now (tablebase .entry)) (size (8 * rings) (table .mover) (table .opponent)) ⌝ }
+        ≡ judgedFirst (maps .rings) (sweep .table) (sweep .same) (sweep .level) (maps .count) (now (tablebase .entry))
+        (size (8 * maps .rings) (sweep .table .mover) (sweep .table .opponent)) ⌝ }
 {
+    let table = sweep.table;
     let own = table.own;
     let size = own.end - own.start;
     let mut at = cursor::nowhere(size);
     let mut r = find_mark(tablebase, table, 0);
     while r < size {
-        at = cursor::seek(binomials, rings, table.mover, table.opponent, at, r);
-        judge_place(
-            tablebase,
-            binomials,
-            near,
-            mills,
-            images,
-            rings,
-            maps,
-            table,
-            same,
-            level,
-            at.position,
-            r,
-        );
+        at = cursor::seek(binomials, maps.rings, table.mover, table.opponent, at, r);
+        judge_place(tablebase, binomials, masks, images, maps, sweep, at);
         r = find_mark(tablebase, table, r + 1);
     }
 }

@@ -3,13 +3,14 @@ ghost use mathlib.Core.Path.{_≡_};
 ghost use Prim.Native.Nat.{_+_, _-_, _*_, _≤_, _<_};
 ghost use lib.ListN.{length};
 ghost use Rattle.sizes.specs.Size.{size};
-ghost use Rattle.sizes.specs.Binomial.{BinomialTable};
 ghost use Rattle.board.specs.Board.{positionOf};
 ghost use Rattle.ranking.specs.Unrank.{unrank};
-ghost use Rattle.plies.specs.Masks.{NeighbourMasks, MillMasks};
+ghost use Rattle.plies.specs.Masks.{Masks};
+ghost use Rattle.probing.specs.Questions.{Lent};
 ghost use Rattle.sweeping.specs.Levels.{Lies, Fits, isOpen, blockedPlace, blockedFirst, blockedRange, allFree, openDecided, Found};
 use super::tables::Table;
 use parts::DRAW;
+use probing::Starts;
 
 // Whether the position of rank r is open.
 fn is_open(tablebase: &[u16], table: Table, r: usize) -> bool
@@ -23,21 +24,21 @@ fn is_open(tablebase: &[u16], table: Table, r: usize) -> bool
 // The position of rank r at level 0.
 fn sweep_place(
     tablebase: &mut [u16],
-    near: &[u32; 24],
+    masks: &[u32; 72],
     rings: usize,
     table: Table,
     position: board::Position,
     r: usize,
 )
-    requires { ⌜ NeighbourMasks rings (now near) ⌝ }
-    requires { ⌜ (rings ≤ 3) × Lies (8 * rings) table (length (now tablebase)) × (r < size (8 * rings) (table .mover) (table .opponent)) ⌝ }
+    requires { ⌜ Masks rings (now masks) ⌝ }
+    requires { ⌜ Lies (8 * rings) table (length (now tablebase)) × (r < size (8 * rings) (table .mover) (table .opponent)) ⌝ }
     requires { ⌜ position ≡ positionOf (unrank (8 * rings) (table .mover) (table .opponent) r) ⌝ }
     ensures { λ _. ⌜ now (tablebase .exit) ≡ blockedPlace rings table (now (tablebase .entry)) r ⌝ }
 {
     if is_open(tablebase, table, r) {
-        if plies::blocked(rings, near, position) {
+        if plies::blocked(rings, masks, position) {
             let own = table.own;
-            parts::write_entry(tablebase, own.start, own.end, r, 0);
+            parts::write_entry(tablebase, own, r, 0);
         }
     }
 }
@@ -78,14 +79,13 @@ fn ahead(
 fn sweep_halves(
     tablebase: &mut [u16],
     binomials: &[u32; 625],
-    near: &[u32; 24],
+    masks: &[u32; 72],
     rings: usize,
     table: Table,
     half: usize,
 )
-    requires { ⌜ BinomialTable (now binomials) ⌝ }
-    requires { ⌜ NeighbourMasks rings (now near) ⌝ }
-    requires { ⌜ (rings ≤ 3) × Lies (8 * rings) table (length (now tablebase)) × (0 < half)
+    requires { ⌜ Lent rings (now binomials) (now masks) ⌝ }
+    requires { ⌜ Lies (8 * rings) table (length (now tablebase)) × (0 < half)
         × (half + half ≤ size (8 * rings) (table .mover) (table .opponent)) ⌝ }
     ensures { λ _. ⌜ now (tablebase .exit) ≡ blockedFirst rings table (now (tablebase .entry)) (half + half) ⌝ }
 {
@@ -95,8 +95,8 @@ fn sweep_halves(
     let mut high = ranking::unrank(binomials, 8 * rings, m, o, half);
     let mut r = 0;
     while r < half {
-        sweep_place(tablebase, near, rings, table, low, r);
-        sweep_place(tablebase, near, rings, table, high, half + r);
+        sweep_place(tablebase, masks, rings, table, low, r);
+        sweep_place(tablebase, masks, rings, table, high, half + r);
         low = ahead(rings, m, o, low, r, half);
         high = ahead(rings, m, o, high, half + r, half + half);
         r += 1;
@@ -107,14 +107,13 @@ fn sweep_halves(
 fn sweep_rest(
     tablebase: &mut [u16],
     binomials: &[u32; 625],
-    near: &[u32; 24],
+    masks: &[u32; 72],
     rings: usize,
     table: Table,
     from: usize,
 )
-    requires { ⌜ BinomialTable (now binomials) ⌝ }
-    requires { ⌜ NeighbourMasks rings (now near) ⌝ }
-    requires { ⌜ (rings ≤ 3) × Lies (8 * rings) table (length (now tablebase)) × (from ≤ size (8 * rings) (table .mover) (table .opponent)) ⌝ }
+    requires { ⌜ Lent rings (now binomials) (now masks) ⌝ }
+    requires { ⌜ Lies (8 * rings) table (length (now tablebase)) × (from ≤ size (8 * rings) (table .mover) (table .opponent)) ⌝ }
     ensures { λ _. ⌜ now (tablebase .exit)
         ≡ blockedRange rings table from (now (tablebase .entry)) (size (8 * rings) (table .mover) (table .opponent) - from) ⌝ }
 {
@@ -123,7 +122,7 @@ fn sweep_rest(
     let mut r = from;
     while r < size {
         let position = ranking::unrank(binomials, 8 * rings, table.mover, table.opponent, r);
-        sweep_place(tablebase, near, rings, table, position, r);
+        sweep_place(tablebase, masks, rings, table, position, r);
         r += 1;
     }
 }
@@ -132,58 +131,53 @@ fn sweep_rest(
 fn sweep_places(
     tablebase: &mut [u16],
     binomials: &[u32; 625],
-    near: &[u32; 24],
+    masks: &[u32; 72],
     rings: usize,
     table: Table,
 )
-    requires { ⌜ BinomialTable (now binomials) ⌝ }
-    requires { ⌜ NeighbourMasks rings (now near) ⌝ }
-    requires { ⌜ (rings ≤ 3) × Lies (8 * rings) table (length (now tablebase)) ⌝ }
+    requires { ⌜ Lent rings (now binomials) (now masks) ⌝ }
+    requires { ⌜ Lies (8 * rings) table (length (now tablebase)) ⌝ }
     ensures { λ _. ⌜ now (tablebase .exit) ≡ blockedFirst rings table (now (tablebase .entry)) (size (8 * rings) (table .mover) (table .opponent)) ⌝ }
 {
     let own = table.own;
     let half = (own.end - own.start) / 2;
     if half == 0 {
-        sweep_rest(tablebase, binomials, near, rings, table, 0);
+        sweep_rest(tablebase, binomials, masks, rings, table, 0);
         return;
     }
-    sweep_halves(tablebase, binomials, near, rings, table, half);
-    sweep_rest(tablebase, binomials, near, rings, table, half + half);
+    sweep_halves(tablebase, binomials, masks, rings, table, half);
+    sweep_rest(tablebase, binomials, masks, rings, table, half + half);
 }
 
 // All positions of a table at level 0.
 pub fn sweep_blocked(
     tablebase: &mut [u16],
     binomials: &[u32; 625],
-    near: &[u32; 24],
+    masks: &[u32; 72],
     rings: usize,
     table: Table,
 )
-    requires { ⌜ BinomialTable (now binomials) ⌝ }
-    requires { ⌜ NeighbourMasks rings (now near) ⌝ }
-    requires { ⌜ (rings ≤ 3) × Lies (8 * rings) table (length (now tablebase)) ⌝ }
+    requires { ⌜ Lent rings (now binomials) (now masks) ⌝ }
+    requires { ⌜ Lies (8 * rings) table (length (now tablebase)) ⌝ }
     ensures { λ _. ⌜ now (tablebase .exit) ≡ blockedFirst rings table (now (tablebase .entry)) (size (8 * rings) (table .mover) (table .opponent)) ⌝ }
 {
     if all_free(rings, table) {
         return;
     }
-    sweep_places(tablebase, binomials, near, rings, table);
+    sweep_places(tablebase, binomials, masks, rings, table);
 }
 
 // Whether the position of rank r is open and decided by its successors.
 fn open_decided(
     tablebase: &[u16],
     binomials: &[u32; 625],
-    near: &[u32; 24],
-    mills: &[u32; 48],
+    masks: &[u32; 72],
     rings: usize,
     table: Table,
     same: usize,
     r: usize,
 ) -> bool
-    requires { ⌜ BinomialTable (now binomials) ⌝ }
-    requires { ⌜ NeighbourMasks rings (now near) ⌝ }
-    requires { ⌜ MillMasks rings (now mills) ⌝ }
+    requires { ⌜ Lent rings (now binomials) (now masks) ⌝ }
     requires { ⌜ Fits (length (now tablebase)) rings table same × (r < size (8 * rings) (table .mover) (table .opponent)) ⌝ }
     ensures { λ b. ⌜ b ≡ openDecided rings table same (now (tablebase .entry)) r ⌝ }
 {
@@ -193,11 +187,12 @@ fn open_decided(
         return probing::decided(
             tablebase,
             binomials,
-            near,
-            mills,
+            masks,
             rings,
-            same,
-            lower.start,
+            Starts {
+                same: same,
+                fewer: lower.start,
+            },
             position,
         );
     }
@@ -208,15 +203,12 @@ fn open_decided(
 pub fn some_decided(
     tablebase: &[u16],
     binomials: &[u32; 625],
-    near: &[u32; 24],
-    mills: &[u32; 48],
+    masks: &[u32; 72],
     rings: usize,
     table: Table,
     same: usize,
 ) -> bool
-    requires { ⌜ BinomialTable (now binomials) ⌝ }
-    requires { ⌜ NeighbourMasks rings (now near) ⌝ }
-    requires { ⌜ MillMasks rings (now mills) ⌝ }
+    requires { ⌜ Lent rings (now binomials) (now masks) ⌝ }
     requires { ⌜ Fits (length (now tablebase)) rings table same ⌝ }
     ensures { λ b. ⌜ Found (openDecided rings table same (now (tablebase .entry))) (size (8 * rings) (table .mover) (table .opponent)) b ⌝ }
 {
@@ -224,7 +216,7 @@ pub fn some_decided(
     let size = own.end - own.start;
     let mut r = 0;
     while r < size {
-        if open_decided(tablebase, binomials, near, mills, rings, table, same, r) {
+        if open_decided(tablebase, binomials, masks, rings, table, same, r) {
             return true;
         }
         r += 1;

@@ -1,21 +1,19 @@
 // The marks of a level above 0: the open positions before those of the depth below.
 ghost use mathlib.Core.Path.{_≡_};
-ghost use Prim.Native.Nat.{_+_, _*_, _≤_, _<_};
+ghost use Prim.Native.Nat.{_*_, _≤_};
 ghost use lib.ListN.{length};
-ghost use Rattle.board.specs.Board.{count, digit, boardOf};
+ghost use Rattle.board.specs.Board.{boardOf};
 ghost use Rattle.sizes.specs.Size.{size};
-ghost use Rattle.sizes.specs.Binomial.{BinomialTable};
-ghost use Rattle.game.specs.Game.{voidEntry};
-ghost use Rattle.plies.specs.Masks.{NeighbourMasks, MillMasks};
-ghost use Rattle.plies.specs.Positions.{Placed};
+ghost use Rattle.plies.specs.Masks.{Masks};
 ghost use Rattle.parts.specs.Finding.{First};
-ghost use Rattle.imaging.specs.Images.{RingImages, leastOfClass};
-ghost use Rattle.marking.specs.Stones.{Room};
-ghost use Rattle.sweeping.specs.Levels.{Lies};
-ghost use Rattle.sweeping.specs.Marked.{Before, Stored, isSource, goneBack, markedFrom};
+ghost use Rattle.imaging.specs.Images.{leastOfClass};
+ghost use Rattle.imaging.specs.Conditions.{Imaging};
+ghost use Rattle.probing.specs.Questions.{Lent};
+ghost use Rattle.marking.specs.Stones.{Returning};
+ghost use Rattle.sweeping.specs.Marked.{Stored, Preceding, isSource, goneBack, markedFrom};
 use super::cursor;
-use super::tables::Part;
-use super::tables::Table;
+use imaging::Maps;
+use marking::Back;
 
 // A table that plies lead to: where it starts, and its counts.
 pub struct Source {
@@ -24,11 +22,19 @@ pub struct Source {
     pub opponent: usize,
 }
 
-// The first rank from r on of a position of a depth, or the size.
-fn find_source(tablebase: &[u16], source: Source, size: usize, depth: u16, r: usize) -> usize
-    requires { ⌜ (r ≤ size) × Stored source size (length (now tablebase)) ⌝ }
-    ensures { λ i. ⌜ First (isSource source depth (now (tablebase .entry))) r size i ⌝ }
+// The positions of one depth in such a table.
+pub struct Layer {
+    pub source: Source,
+    pub depth: u16,
+}
+
+// The first rank from r on of a position of a layer, or the size.
+fn find_source(tablebase: &[u16], layer: Layer, size: usize, r: usize) -> usize
+    requires { ⌜ (r ≤ size) × Stored (layer .source) size (length (now tablebase)) ⌝ }
+    ensures { λ i. ⌜ First (isSource (layer .source) (layer .depth) (now (tablebase .entry))) r size i ⌝ }
 {
+    let source = layer.source;
+    let depth = layer.depth;
     if source.mover < 3 {
         if depth == 0 {
             return r;
@@ -43,37 +49,20 @@ fn find_source(tablebase: &[u16], source: Source, size: usize, depth: u16, r: us
 fn mark_source(
     tablebase: &mut [u16],
     binomials: &[u32; 625],
-    near: &[u32; 24],
-    mills: &[u32; 48],
+    masks: &[u32; 72],
     images: &[u8; 2048],
-    rings: usize,
-    maps: usize,
-    own: Part,
-    capture: bool,
+    maps: Maps,
+    back: Back,
     position: board::Position,
 )
-    requires { ⌜ BinomialTable (now binomials) ⌝ }
-    requires { ⌜ NeighbourMasks rings (now near) ⌝ }
-    requires { ⌜ MillMasks rings (now mills) ⌝ }
-    requires { ⌜ RingImages (now images) × (maps ≤ 16) ⌝ }
-    requires { ⌜ Placed rings position ⌝ }
-    requires { ⌜ Room (8 * rings) (count 2 (boardOf (8 * rings) position)) (count 1 (boardOf (8 * rings) position) + digit capture)
-        (own .start) (own .end) (length (now tablebase)) ⌝ }
+    requires { ⌜ Returning (now binomials) (length (now tablebase)) (maps .rings) back position ⌝ }
+    requires { ⌜ Masks (maps .rings) (now masks) × Imaging (now images) maps position ⌝ }
     ensures { λ _. ⌜ now (tablebase .exit)
-        ≡ goneBack rings (own .start) capture (leastOfClass rings maps) (boardOf (8 * rings) position) (now (tablebase .entry)) ⌝ }
+        ≡ goneBack (maps .rings) (back .part .start) (back .capture) (leastOfClass (maps .rings) (maps .count)) (boardOf (8 * maps .rings) position)
+        (now (tablebase .entry)) ⌝ }
 {
-    if imaging::is_least(images, rings, maps, position) {
-        marking::mark_before(
-            tablebase,
-            binomials,
-            near,
-            mills,
-            rings,
-            own.start,
-            own.end,
-            capture,
-            position,
-        );
+    if imaging::is_least(images, maps, position) {
+        marking::mark_before(tablebase, binomials, masks, maps.rings, back, position);
     }
 }
 
@@ -81,44 +70,26 @@ fn mark_source(
 pub fn mark_table(
     tablebase: &mut [u16],
     binomials: &[u32; 625],
-    near: &[u32; 24],
-    mills: &[u32; 48],
+    masks: &[u32; 72],
     images: &[u8; 2048],
-    rings: usize,
-    maps: usize,
-    table: Table,
-    source: Source,
-    capture: bool,
-    depth: u16,
+    maps: Maps,
+    back: Back,
+    layer: Layer,
 )
-    requires { ⌜ BinomialTable (now binomials) ⌝ }
-    requires { ⌜ NeighbourMasks rings (now near) ⌝ }
-    requires { ⌜ MillMasks rings (now mills) ⌝ }
-    requires { ⌜ (rings ≤ 3) × Lies (8 * rings) table (length (now tablebase)) × Before table source capture × (source .mover ≤ 24) × (source .opponent ≤ 24)
-        × Stored source (size (8 * rings) (source .mover) (source .opponent)) (length (now tablebase)) × (depth < voidEntry)
-        × RingImages (now images) × (maps ≤ 16) ⌝ }
+    requires { ⌜ Lent (maps .rings) (now binomials) (now masks) ⌝ }
+    requires { ⌜ Preceding (now images) (length (now tablebase)) maps back layer ⌝ }
     ensures { λ _. ⌜ now (tablebase .exit)
-        ≡ markedFrom rings (table .own .start) source capture depth (leastOfClass rings maps) (now (tablebase .entry))
-        (size (8 * rings) (source .mover) (source .opponent)) ⌝ }
+        ≡ markedFrom (maps .rings) (back .part .start) (layer .source) (back .capture) (layer .depth) (leastOfClass (maps .rings) (maps .count))
+        (now (tablebase .entry)) (size (8 * maps .rings) (layer .source .mover) (layer .source .opponent)) ⌝ }
 {
-    let own = table.own;
-    let size = sizes::size(binomials, 8 * rings, source.mover, source.opponent);
+    let source = layer.source;
+    let points = 8 * maps.rings;
+    let size = sizes::size(binomials, points, source.mover, source.opponent);
     let mut at = cursor::nowhere(size);
-    let mut r = find_source(tablebase, source, size, depth, 0);
+    let mut r = find_source(tablebase, layer, size, 0);
     while r < size {
-        at = cursor::seek(binomials, rings, source.mover, source.opponent, at, r);
-        mark_source(
-            tablebase,
-            binomials,
-            near,
-            mills,
-            images,
-            rings,
-            maps,
-            own,
-            capture,
-            at.position,
-        );
-        r = find_source(tablebase, source, size, depth, r + 1);
+        at = cursor::seek(binomials, maps.rings, source.mover, source.opponent, at, r);
+        mark_source(tablebase, binomials, masks, images, maps, back, at.position);
+        r = find_source(tablebase, layer, size, r + 1);
     }
 }

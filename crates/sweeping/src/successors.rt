@@ -7,12 +7,7 @@ ghost use Rattle.layout.specs.Layout.{start};
 ghost use Rattle.plies.specs.Positions.{Placed};
 ghost use Rattle.sweeping.specs.Tables.{lowerStart};
 use super::tables;
-
-// Where they start: the table of the successors without a removal, and that of those with one.
-pub struct Starts {
-    pub same: usize,
-    pub fewer: usize,
-}
+use probing::Starts;
 
 // The sides change names after a ply, so those without a removal are in table (o, m).
 pub fn starts_of(

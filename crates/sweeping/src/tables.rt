@@ -4,12 +4,7 @@ ghost use Prim.Native.Nat.{_≤_};
 ghost use Rattle.sizes.specs.Binomial.{BinomialTable};
 ghost use Rattle.layout.specs.Layout.{start, end};
 ghost use Rattle.sweeping.specs.Tables.{lowerStart, lowerEnd, Located};
-
-// The places from start on and below end.
-pub struct Part {
-    pub start: usize,
-    pub end: usize,
-}
+use parts::Part;
 
 // The table (mover, opponent): its own part, and that of the table which a removal leads to, empty where that leaves two stones.
 pub struct Table {
@@ -17,6 +12,13 @@ pub struct Table {
     pub opponent: usize,
     pub own: Part,
     pub lower: Part,
+}
+
+// A level over a table; the table of its successors without a removal starts at `same`.
+pub struct Sweep {
+    pub table: Table,
+    pub same: usize,
+    pub level: u16,
 }
 
 fn part_of(binomials: &[u32; 625], points: usize, k: usize, m: usize, o: usize) -> Part

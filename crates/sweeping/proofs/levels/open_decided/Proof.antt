@@ -18,7 +18,7 @@ found : (c : tie.After-unrank)
 found c =
     let s = entered c in
     at-rank (length (s .args .tablebase .now)) (s .args .rings) (s .args .table) (s .args .same) (s .args .r) (c .unrank .result)
-    (s .pre .1 .1 .1 .0) (s .pre .1 .1 .1 .1) (c .unrank .ensures)
+    (s .pre .1 .0) (s .pre .1 .1) (c .unrank .ensures)
 
 is-open-requires : tie.Need-is-open-requires
 is-open-requires c κs = search needs
@@ -33,7 +33,7 @@ decided-requires : tie.Need-decided-requires
 decided-requires c κs =
     let s = c .before .before .before .before .before in
     let w = found (c .before) in
-    (s .pre .0, (s .pre .1 .0, (s .pre .1 .1 .0, (w .placed, w .reads))))
+    (record { binomials = s .pre .0 .binomials; placed = w .placed; reads = w .reads }, s .pre .0 .masks)
 
 returns : tie.Need-returns
 returns c =

@@ -9,11 +9,11 @@ use Rattle.sweeping.proofs.levels.some_decided.Statement.{statement}
 use Rattle.sweeping.proofs.levels.some_decided.Tie as tie
 
 abbrev Inv-loop : tie.InvT-loop
-Inv-loop tablebase binomials near mills rings table same size r₀ r =
+Inv-loop tablebase binomials masks rings table same size r₀ r =
     (table .own .start + size ≡ table .own .end) × (r ≤ size) × Found (openDecided rings table same tablebase) r false
 
 abbrev μ-loop : tie.MeasureT-loop
-μ-loop tablebase binomials near mills rings table same size r₀ r = size - r
+μ-loop tablebase binomials masks rings table same size r₀ r = size - r
 
 -- one number more that does not pass
 none-more : (f : ℕ → Bool) (n : ℕ) → Found f n false → f n ≡ false → Found f (n + 1) false
@@ -24,24 +24,24 @@ none-more f n h e r l = go (ℕ-discrete r n)
     go (no d) = h r (omega (arith, d))
 
 sub-size : tie.Need-sub-size Inv-loop μ-loop
-sub-size c = omega (arith, c .before .before .before .pre .1 .1 .1 .end-is)
+sub-size c = omega (arith, c .before .before .before .pre .1 .end-is)
 
 loop-holds : tie.Need-loop-holds Inv-loop μ-loop
-loop-holds c = (omega (arith, c .before .before .before .pre .1 .1 .1 .end-is), omega arith, λ r l. absurd (omega arith))
+loop-holds c = (omega (arith, c .before .before .before .pre .1 .end-is), omega arith, λ r l. absurd (omega arith))
 
 open-decided-requires : tie.Need-open-decided-requires Inv-loop μ-loop
 open-decided-requires c κs =
     let x = c .before in
     let s = x .before .before .before .before in
-    let f = s .pre .1 .1 .1 in
-    (s .pre .0, (s .pre .1 .0, (s .pre .1 .1 .0, (f, omega (arith, c .loop-test .taken, x .loop .inv .0, f .end-is)))))
+    let f = s .pre .1 in
+    (s .pre .0, (f, omega (arith, c .loop-test .taken, x .loop .inv .0, f .end-is)))
 
 returns : tie.Need-returns Inv-loop μ-loop
 returns c =
     let x = c .before .before .before in
     let s = x .before .before .before .before in (
       x .loop .r,
-      omega (arith, c .before .before .loop-test .taken, x .loop .inv .0, s .pre .1 .1 .1 .end-is),
+      omega (arith, c .before .before .loop-test .taken, x .loop .inv .0, s .pre .1 .end-is),
       sym (c .before .open-decided .ensures) ∙ c .if1 .taken,
     )
 
@@ -63,7 +63,7 @@ returns-2 : tie.Need-returns-2 Inv-loop μ-loop
 returns-2 c =
     let x = c .before in
     let s = x .before .before .before .before in
-    λ r l. x .loop .inv .2 r (omega (arith, c .loop-test .left, x .loop .inv .0, x .loop .inv .1, s .pre .1 .1 .1 .end-is))
+    λ r l. x .loop .inv .2 r (omega (arith, c .loop-test .left, x .loop .inv .0, x .loop .inv .1, s .pre .1 .end-is))
 
 pub some-decided-spec : {M : Type 1} → statement M
 some-decided-spec =

@@ -14,13 +14,13 @@ use Rattle.sweeping.proofs.levels.sweep_halves.Statement.{statement}
 use Rattle.sweeping.proofs.levels.sweep_halves.Tie as tie
 
 abbrev Inv-loop : tie.InvT-loop
-Inv-loop tablebase₀ binomials near rings table half m o low₀ high₀ r₀ tablebase low high r =
+Inv-loop tablebase₀ binomials masks rings table half m o low₀ high₀ r₀ tablebase low high r =
     (r ≤ half) × (length tablebase ≡ length tablebase₀) × (tablebase ≡ blockedRange rings table half (blockedFirst rings table tablebase₀ r) r)
     × (r < half → low ≡ positionOf (unrank (8 * rings) (table .mover) (table .opponent) r))
     × (r < half → high ≡ positionOf (unrank (8 * rings) (table .mover) (table .opponent) (half + r)))
 
 abbrev μ-loop : tie.MeasureT-loop
-μ-loop tablebase₀ binomials near rings table half m o low₀ high₀ r₀ tablebase low high r = half - r
+μ-loop tablebase₀ binomials masks rings table half m o low₀ high₀ r₀ tablebase low high r = half - r
 
 -- the entry of the function, seen from the loop
 abbrev entered : tie.At-loop Inv-loop μ-loop → tie.Start Inv-loop μ-loop
@@ -30,20 +30,20 @@ entered x = x .before .before .before .before
 small : (s : tie.Start Inv-loop μ-loop) → s .args .half ≤ 281474976710656
 small s =
     let a = s .args in
-    let p = s .pre .1 .1 in
-    omega (arith, p .3, size-small (8 * a .rings) (a .table .mover) (a .table .opponent) (omega (arith, p .0)))
+    let p = s .pre in
+    omega (arith, p .1 .2, size-small (8 * a .rings) (a .table .mover) (a .table .opponent) (omega (arith, p .0 .masks .small)))
 
 mul-unrank : tie.Need-mul-unrank Inv-loop μ-loop
-mul-unrank c = omega (arith, c .before .pre .1 .1 .0)
+mul-unrank c = omega (arith, c .before .pre .0 .masks .small)
 
 unrank-requires : tie.Need-unrank-requires Inv-loop μ-loop
-unrank-requires c κs = let s = c .before in (s .pre .0, (omega (arith, s .pre .1 .1 .0), omega (arith, s .pre .1 .1 .2, s .pre .1 .1 .3)))
+unrank-requires c κs = let s = c .before in (s .pre .0 .binomials, (omega (arith, s .pre .0 .masks .small), omega (arith, s .pre .1 .1, s .pre .1 .2)))
 
 mul-unrank-2 : tie.Need-mul-unrank-2 Inv-loop μ-loop
-mul-unrank-2 c = omega (arith, c .before .before .pre .1 .1 .0)
+mul-unrank-2 c = omega (arith, c .before .before .pre .0 .masks .small)
 
 unrank-requires-2 : tie.Need-unrank-requires-2 Inv-loop μ-loop
-unrank-requires-2 c κs = let s = c .before .before in (s .pre .0, (omega (arith, s .pre .1 .1 .0), omega (arith, s .pre .1 .1 .2, s .pre .1 .1 .3)))
+unrank-requires-2 c κs = let s = c .before .before in (s .pre .0 .binomials, (omega (arith, s .pre .0 .masks .small), omega (arith, s .pre .1 .1, s .pre .1 .2)))
 
 loop-holds : tie.Need-loop-holds Inv-loop μ-loop
 loop-holds c =
@@ -62,10 +62,10 @@ sweep-place-requires c κs =
     let x = c .before .before in
     let s = entered x in
     let a = s .args in
-    let p = s .pre .1 .1 in
+    let p = s .pre in
     let t = c .before .loop-test .taken in (
-      s .pre .1 .0,
-      ((p .0, subst (λ (n : ℕ). Lies (8 * a .rings) (a .table) n) (sym (x .loop .inv .1)) (p .1), omega (arith, t, p .3)), x .loop .inv .3 t),
+      s .pre .0 .masks,
+      ((subst (λ (n : ℕ). Lies (8 * a .rings) (a .table) n) (sym (x .loop .inv .1)) (p .1 .0), omega (arith, t, p .1 .2)), x .loop .inv .3 t),
     )
 
 add-sweep-place : tie.Need-add-sweep-place Inv-loop μ-loop
@@ -76,20 +76,20 @@ sweep-place-requires-2 c κs =
     let x = c .before .before .before .before .before .before in
     let s = entered x in
     let a = s .args in
-    let p = s .pre .1 .1 in
+    let p = s .pre in
     let t = c .before .before .before .before .before .loop-test .taken in
     let e = ap length (c .before .before .before .sweep-place .ensures) ∙ blocked-length (a .rings) (a .table) (x .loop .r) (x .loop .tablebase)
     ∙ x .loop .inv .1 in (
-      s .pre .1 .0,
-      ((p .0, subst (λ (n : ℕ). Lies (8 * a .rings) (a .table) n) (sym e) (p .1), omega (arith, t, p .3)), x .loop .inv .4 t),
+      s .pre .0 .masks,
+      ((subst (λ (n : ℕ). Lies (8 * a .rings) (a .table) n) (sym e) (p .1 .0), omega (arith, t, p .1 .2)), x .loop .inv .4 t),
     )
 
 ahead-requires : tie.Need-ahead-requires Inv-loop μ-loop
 ahead-requires c κs =
     let x = c .before .before .before .before .before .before .before .before .before in
-    let p = entered x .pre .1 .1 in
+    let p = entered x .pre in
     let t = c .before .before .before .before .before .before .before .before .loop-test .taken in
-    ((p .0, t, omega (arith, p .3)), x .loop .inv .3 t)
+    ((p .0 .masks .small, t, omega (arith, p .1 .2)), x .loop .inv .3 t)
 
 add-ahead : tie.Need-add-ahead Inv-loop μ-loop
 add-ahead c = omega (
@@ -105,9 +105,9 @@ add-ahead-2 c = omega (arith, small (entered (c .before .before .before .before 
 ahead-requires-2 : tie.Need-ahead-requires-2 Inv-loop μ-loop
 ahead-requires-2 c κs =
     let x = c .before .before .before .before .before .before .before .before .before .before in
-    let p = entered x .pre .1 .1 in
+    let p = entered x .pre in
     let t = c .before .before .before .before .before .before .before .before .before .loop-test .taken in
-    ((p .0, omega (arith, t), p .3), x .loop .inv .4 t)
+    ((p .0 .masks .small, omega (arith, t), p .1 .2), x .loop .inv .4 t)
 
 add-r : tie.Need-add-r Inv-loop μ-loop
 add-r c = omega (

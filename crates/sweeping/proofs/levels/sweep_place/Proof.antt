@@ -21,14 +21,14 @@ found : (s : tie.Start)
     ≡ isEmpty (next (s .args .rings) (unrank (8 * s .args .rings) (s .args .table .mover) (s .args .table .opponent) (s .args .r))))
 found s =
     let a = s .args in
-    let w = placed-at (a .rings) (s .pre .1 .0 .0) (a .table .mover) (a .table .opponent) (a .r) (s .pre .1 .0 .2) (a .position) (s .pre .1 .1) in
+    let w = placed-at (a .rings) (s .pre .0 .small) (a .table .mover) (a .table .opponent) (a .r) (s .pre .1 .0 .1) (a .position) (s .pre .1 .1) in
     (w .0, no-successor (a .rings) (boardOf (8 * a .rings) (a .position)) ∙ ap (λ (b : List ℕ). isEmpty (next (a .rings) b)) (w .1))
 
 is-open-requires : tie.Need-is-open-requires
 is-open-requires c κs = search needs
 
 blocked-requires : tie.Need-blocked-requires
-blocked-requires c κs = let s = c .before .before .before .before in (s .pre .0, found s .0)
+blocked-requires c κs = let s = c .before .before .before .before in record { masks = s .pre .0; placed = found s .0 }
 
 write-entry-requires : tie.Need-write-entry-requires
 write-entry-requires c κs = search needs

@@ -33,8 +33,8 @@ returns c =
 sweep-halves-requires : tie.Need-sweep-halves-requires
 sweep-halves-requires c κs =
     let s = c .before .before .before .before .before in
-    let p = s .pre .1 .1 in
-    (s .pre .0, (s .pre .1 .0, (p .0, p .1, omega (arith, c .before .if1 .left), omega (arith, p .1 .whole))))
+    let p = s .pre in
+    (p .0, (p .1, omega (arith, c .before .if1 .left), omega (arith, p .1 .whole)))
 
 add-sweep-rest : tie.Need-add-sweep-rest
 add-sweep-rest c = search needs
@@ -43,9 +43,9 @@ sweep-rest-requires-2 : tie.Need-sweep-rest-requires-2
 sweep-rest-requires-2 c κs =
     let s = c .before .before .before .before .before .before .before .before .before in
     let a = s .args in
-    let p = s .pre .1 .1 in
+    let p = s .pre in
     let e = ap length (c .before .before .before .sweep-halves .ensures) ∙ blocked-lengths (a .rings) (a .table) (a .tablebase .now) _ in
-    (s .pre .0, (s .pre .1 .0, (p .0, subst (λ (n : ℕ). Lies (8 * a .rings) (a .table) n) (sym e) (p .1), omega (arith, p .1 .whole))))
+    (p .0, (subst (λ (n : ℕ). Lies (8 * a .rings) (a .table) n) (sym e) (p .1), omega (arith, p .1 .whole)))
 
 same-length-2 : tie.Need-same-length-2
 same-length-2 c = search needs
@@ -56,7 +56,7 @@ returns-2 c =
     let k = t .before .before .before .before in
     let s = k .before .before .before .before .before .before in
     let a = s .args in
-    let p = s .pre .1 .1 in
+    let p = s .pre in
     let n = size (8 * a .rings) (a .table .mover) (a .table .opponent) in
     let h = (a .table .own .end - a .table .own .start) / 2 in
     let z : h + h + (n - (h + h)) ≡ n = omega (arith, p .1 .whole) in

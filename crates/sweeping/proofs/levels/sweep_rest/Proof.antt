@@ -10,52 +10,51 @@ use Rattle.sweeping.proofs.levels.sweep_rest.Statement.{statement}
 use Rattle.sweeping.proofs.levels.sweep_rest.Tie as tie
 
 abbrev Inv-loop : tie.InvT-loop
-Inv-loop tablebase₀ binomials near rings table from n r₀ tablebase r =
+Inv-loop tablebase₀ binomials masks rings table from n r₀ tablebase r =
     (n ≡ size (8 * rings) (table .mover) (table .opponent)) × (from ≤ r) × (r ≤ n) × (length tablebase ≡ length tablebase₀)
     × (tablebase ≡ blockedRange rings table from tablebase₀ (r - from))
 
 abbrev μ-loop : tie.MeasureT-loop
-μ-loop tablebase₀ binomials near rings table from n r₀ tablebase r = n - r
+μ-loop tablebase₀ binomials masks rings table from n r₀ tablebase r = n - r
 
 -- the entry of the function, seen from the loop
 abbrev entered : tie.At-loop Inv-loop μ-loop → tie.Start Inv-loop μ-loop
 entered x = x .before .before .before .before
 
 sub-size : tie.Need-sub-size Inv-loop μ-loop
-sub-size c = omega (arith, c .before .before .before .pre .1 .1 .1 .whole)
+sub-size c = omega (arith, c .before .before .before .pre .1 .0 .whole)
 
 loop-holds : tie.Need-loop-holds Inv-loop μ-loop
 loop-holds c =
     let s = c .before .before .before in
     let a = s .args in
-    let p = s .pre .1 .1 in
+    let p = s .pre in
     let z : 0 ≡ a .from - a .from = omega arith in (
-      omega (arith, p .1 .whole),
+      omega (arith, p .1 .0 .whole),
       omega arith,
-      omega (arith, p .1 .whole, p .2),
+      omega (arith, p .1 .0 .whole, p .1 .1),
       refl,
       range-none (a .rings) (a .table) (a .from) (a .tablebase .now) ∙ ap (blockedRange (a .rings) (a .table) (a .from) (a .tablebase .now)) z,
     )
 
 mul-unrank : tie.Need-mul-unrank Inv-loop μ-loop
-mul-unrank c = omega (arith, entered (c .before) .pre .1 .1 .0)
+mul-unrank c = omega (arith, entered (c .before) .pre .0 .masks .small)
 
 unrank-requires : tie.Need-unrank-requires Inv-loop μ-loop
 unrank-requires c κs =
     let x = c .before in
     let s = entered x in
-    (s .pre .0, (omega (arith, s .pre .1 .1 .0), omega (arith, c .loop-test .taken, x .loop .inv .0)))
+    (s .pre .0 .binomials, (omega (arith, s .pre .0 .masks .small), omega (arith, c .loop-test .taken, x .loop .inv .0)))
 
 sweep-place-requires : tie.Need-sweep-place-requires Inv-loop μ-loop
 sweep-place-requires c κs =
     let x = c .before .before .before in
     let s = entered x in
     let a = s .args in (
-      s .pre .1 .0,
+      s .pre .0 .masks,
       (
         (
-          s .pre .1 .1 .0,
-          subst (λ (n : ℕ). Lies (8 * a .rings) (a .table) n) (sym (x .loop .inv .3)) (s .pre .1 .1 .1),
+          subst (λ (n : ℕ). Lies (8 * a .rings) (a .table) n) (sym (x .loop .inv .3)) (s .pre .1 .0),
           omega (arith, c .before .before .loop-test .taken, x .loop .inv .0),
         ),
         c .before .unrank .ensures,

@@ -9,13 +9,10 @@ use Rattle.sweeping.proofs.marks.mark_source.Statement.{statement}
 use Rattle.sweeping.proofs.marks.mark_source.Tie as tie
 
 is-least-requires : tie.Need-is-least-requires
-is-least-requires c κs = let p = c .before .pre .1 .1 .1 in (p .0 .0, (p .1 .0 .small, p .0 .1, p .1 .0 .on))
+is-least-requires c κs = search needs
 
 mark-before-requires : tie.Need-mark-before-requires
-mark-before-requires c κs =
-    let s = c .before .before .before .before in
-    let p = s .pre .1 .1 .1 in
-    (s .pre .0, (s .pre .1 .0, (s .pre .1 .1 .0, (p .1 .0, p .1 .1))))
+mark-before-requires c κs = search needs
 
 same-length : tie.Need-same-length
 same-length c = search needs
@@ -25,13 +22,13 @@ returns c =
     let t = c .before .before .before .before in
     let a = t .before .before .before .args in
     c .before .before .mark-before .ensures
-    ∙ gone-picked (a .rings) (a .own .start) (a .capture) (leastOfClass (a .rings) (a .maps)) (boardOf (8 * a .rings) (a .position)) (a .tablebase .now)
+    ∙ gone-picked (a .maps .rings) (a .back .part .start) (a .back .capture) (leastOfClass (a .maps .rings) (a .maps .count)) (boardOf (8 * a .maps .rings) (a .position)) (a .tablebase .now)
     (sym (t .before .is-least .ensures) ∙ t .if1 .taken)
 
 returns-2 : tie.Need-returns-2
 returns-2 c =
     let a = c .before .before .before .args in
-    gone-passed (a .rings) (a .own .start) (a .capture) (leastOfClass (a .rings) (a .maps)) (boardOf (8 * a .rings) (a .position)) (a .tablebase .now)
+    gone-passed (a .maps .rings) (a .back .part .start) (a .back .capture) (leastOfClass (a .maps .rings) (a .maps .count)) (boardOf (8 * a .maps .rings) (a .position)) (a .tablebase .now)
     (sym (c .before .is-least .ensures) ∙ c .if1 .left)
 
 pub mark-source-spec : {M : Type 1} → statement M

@@ -16,62 +16,64 @@ use Rattle.sweeping.specs.Marked.{Stored, isSource, markedFrom}
 use Rattle.sweeping.proofs.AtRank.{placed-at}
 use Rattle.sweeping.proofs.Sources.{room-before}
 use Rattle.sweeping.proofs.Sought.{marked-place, place-length, from-none, from-step, from-over, stands-at}
+use Rattle.marking.proofs.Before.{room-same}
 use Rattle.sweeping.proofs.marks.mark_table.Statement.{statement}
 use Rattle.sweeping.proofs.marks.mark_table.Tie as tie
 
 abbrev Inv-loop : tie.InvT-loop
-Inv-loop tablebase₀ binomials near mills images rings maps source capture depth own n at₀ r₀ tablebase at r =
-    (n ≡ size (8 * rings) (source .mover) (source .opponent)) × (r ≤ n) × (length tablebase ≡ length tablebase₀)
-    × (tablebase ≡ markedFrom rings (own .start) source capture depth (leastOfClass rings maps) tablebase₀ r)
-    × (r < n → isSource source depth tablebase r ≡ true)
-    × Stands rings (source .mover) (source .opponent) n at
+Inv-loop tablebase₀ binomials masks images maps back layer source points n at₀ r₀ tablebase at r =
+    (n ≡ size (8 * maps .rings) (layer .source .mover) (layer .source .opponent)) × (r ≤ n) × (length tablebase ≡ length tablebase₀)
+    × (tablebase ≡ markedFrom (maps .rings) (back .part .start) (layer .source) (back .capture) (layer .depth) (leastOfClass (maps .rings) (maps .count))
+    tablebase₀ r)
+    × (r < n → isSource (layer .source) (layer .depth) tablebase r ≡ true)
+    × Stands (maps .rings) (layer .source .mover) (layer .source .opponent) n at
 
 abbrev μ-loop : tie.MeasureT-loop
-μ-loop tablebase₀ binomials near mills images rings maps source capture depth own n at₀ r₀ tablebase at r = n - r
+μ-loop tablebase₀ binomials masks images maps back layer source points n at₀ r₀ tablebase at r = n - r
 
 -- the entry of the function, seen from the loop
 abbrev entered : tie.At-loop Inv-loop μ-loop → tie.Start Inv-loop μ-loop
-entered x = x .before .before .before .before .before .before .before
+entered x = x .before .before .before .before .before .before .before .before
 
 -- the position that is gone back from
 found : (c : tie.After-seek Inv-loop μ-loop)
-    → Placed (entered (c .before .before) .args .rings) (c .seek .result .position)
-    × (boardOf (8 * entered (c .before .before) .args .rings) (c .seek .result .position)
-    ≡ unrank (8 * entered (c .before .before) .args .rings) (entered (c .before .before) .args .source .mover)
-    (entered (c .before .before) .args .source .opponent) (c .before .before .loop .r))
+    → Placed (entered (c .before .before) .args .maps .rings) (c .seek .result .position)
+    × (boardOf (8 * entered (c .before .before) .args .maps .rings) (c .seek .result .position)
+    ≡ unrank (8 * entered (c .before .before) .args .maps .rings) (entered (c .before .before) .args .layer .source .mover)
+    (entered (c .before .before) .args .layer .source .opponent) (c .before .before .loop .r))
 found c =
     let x = c .before .before in
     let s = entered x in
     let a = s .args in
-    placed-at (a .rings) (s .pre .1 .1 .1 .0) (a .source .mover) (a .source .opponent) (x .loop .r)
+    placed-at (a .maps .rings) (s .pre .0 .masks .small) (a .layer .source .mover) (a .layer .source .opponent) (x .loop .r)
     (omega (arith, c .before .loop-test .taken, x .loop .inv .0))
     (c .seek .result .position) (c .seek .ensures .1)
 
-mul-size : tie.Need-mul-size Inv-loop μ-loop
-mul-size c = omega (arith, c .before .before .pre .1 .1 .1 .0)
+mul-points : tie.Need-mul-points Inv-loop μ-loop
+mul-points c = omega (arith, c .before .before .before .pre .0 .masks .small)
 
 size-requires : tie.Need-size-requires Inv-loop μ-loop
-size-requires c κs = let s = c .before .before in let p = s .pre .1 .1 .1 in (s .pre .0, (omega (arith, p .0), p .3, p .4))
+size-requires c κs = let s = c .before .before .before in let p = s .pre .1 in (s .pre .0 .binomials, (omega (arith, s .pre .0 .masks .small), p .mover-most, p .opponent-most))
 
 nowhere-requires : tie.Need-nowhere-requires Inv-loop μ-loop
 nowhere-requires c κs = tt
 
 find-source-requires : tie.Need-find-source-requires Inv-loop μ-loop
 find-source-requires c κs =
-    let s = c .before .before .before .before .before in
+    let s = c .before .before .before .before .before .before in
     let a = s .args in
-    (omega arith, subst (λ (n : ℕ). Stored (a .source) n (length (a .tablebase .now))) (sym (c .before .before .size .ensures)) (s .pre .1 .1 .1 .5))
+    (omega arith, subst (λ (n : ℕ). Stored (a .layer .source) n (length (a .tablebase .now))) (sym (c .before .before .size .ensures)) (s .pre .1 .stored))
 
 loop-holds : tie.Need-loop-holds Inv-loop μ-loop
 loop-holds c =
-    let s = c .before .before .before .before .before .before in
+    let s = c .before .before .before .before .before .before .before in
     let a = s .args in (
       c .before .before .before .size .ensures,
       c .find-source .ensures .high,
       refl,
-      from-over (a .rings) (a .table .own .start) (a .source) (a .capture) (a .depth) (leastOfClass (a .rings) (a .maps)) (a .tablebase .now) 0 _
+      from-over (a .maps .rings) (a .back .part .start) (a .layer .source) (a .back .capture) (a .layer .depth) (leastOfClass (a .maps .rings) (a .maps .count)) (a .tablebase .now) 0 _
           (c .find-source .result) (a .tablebase .now)
-          (c .find-source .ensures) (from-none (a .rings) (a .table .own .start) (a .source) (a .capture) (a .depth) (leastOfClass (a .rings) (a .maps))
+          (c .find-source .ensures) (from-none (a .maps .rings) (a .back .part .start) (a .layer .source) (a .back .capture) (a .layer .depth) (leastOfClass (a .maps .rings) (a .maps .count))
           (a .tablebase .now)),
       c .find-source .ensures .here,
       λ h. absurd (omega (arith, c .before .before .nowhere .ensures)),
@@ -81,31 +83,23 @@ seek-requires : tie.Need-seek-requires Inv-loop μ-loop
 seek-requires c κs =
     let x = c .before in
     let s = entered x in
-    (s .pre .0, ((s .pre .1 .1 .1 .0, omega (arith, c .loop-test .taken, x .loop .inv .0)), λ h. x .loop .inv .5 (omega (arith, c .loop-test .taken))))
+    (s .pre .0 .binomials, ((s .pre .0 .masks .small, omega (arith, c .loop-test .taken, x .loop .inv .0)), λ h. x .loop .inv .5 (omega (arith, c .loop-test .taken))))
 
 mark-source-requires : tie.Need-mark-source-requires Inv-loop μ-loop
 mark-source-requires c κs =
     let x = c .before .before .before in
     let s = entered x in
     let a = s .args in
-    let p = s .pre .1 .1 .1 in
+    let p = s .pre .1 in
     let w = found (c .before) in (
-      s .pre .0,
-      (
-        s .pre .1 .0,
-        (
-          s .pre .1 .1 .0,
-          (
-            (p .7, p .8),
-            (
-              w .0,
-              room-before (a .rings) (length (x .loop .tablebase)) (a .table) (a .source) (a .capture) (p .2)
-                  (subst (λ (n : ℕ). Lies (8 * a .rings) (a .table) n) (sym (x .loop .inv .2)) (p .1)) (x .loop .r)
-                  (omega (arith, c .before .before .loop-test .taken, x .loop .inv .0)) _ (w .1),
-            ),
-          ),
-        ),
-      ),
+      record {
+        binomials = s .pre .0 .binomials;
+        placed = w .0;
+        room = room-before (a .maps .rings) (length (x .loop .tablebase)) (a .layer .source) (a .back .capture) (a .back .part .start) (a .back .part .end)
+            (room-same (p .room) refl refl (sym (x .loop .inv .2))) (x .loop .r)
+            (omega (arith, c .before .before .loop-test .taken, x .loop .inv .0)) _ (w .1);
+      },
+      (s .pre .0 .masks, record { images = p .images; small = w .0 .small; few = p .few; on = w .0 .on }),
     )
 
 add-find-source : tie.Need-add-find-source Inv-loop μ-loop
@@ -114,21 +108,21 @@ add-find-source c = omega (arith, c .before .before .before .before .before .bef
 -- the positions before this one are marked
 stepped : (c : tie.After-mark-source Inv-loop μ-loop)
     → (length (c .mark-source .last .0) ≡ length (c .before .before .before .before .loop .tablebase))
-    × (c .mark-source .last .0 ≡ markedFrom (entered (c .before .before .before .before) .args .rings)
-    (entered (c .before .before .before .before) .args .table .own .start) (entered (c .before .before .before .before) .args .source)
-    (entered (c .before .before .before .before) .args .capture) (entered (c .before .before .before .before) .args .depth)
-    (leastOfClass (entered (c .before .before .before .before) .args .rings) (entered (c .before .before .before .before) .args .maps))
+    × (c .mark-source .last .0 ≡ markedFrom (entered (c .before .before .before .before) .args .maps .rings)
+    (entered (c .before .before .before .before) .args .back .part .start) (entered (c .before .before .before .before) .args .layer .source)
+    (entered (c .before .before .before .before) .args .back .capture) (entered (c .before .before .before .before) .args .layer .depth)
+    (leastOfClass (entered (c .before .before .before .before) .args .maps .rings) (entered (c .before .before .before .before) .args .maps .count))
     (entered (c .before .before .before .before) .args .tablebase .now) (c .before .before .before .before .loop .r + 1))
 stepped c =
     let k = c .before .before in
     let x = k .before .before in
     let a = entered x .args in
     let e = c .mark-source .ensures
-    ∙ marked-place (a .rings) (a .table .own .start) (a .source) (a .capture) (a .depth) (leastOfClass (a .rings) (a .maps)) (x .loop .r) (x .loop .tablebase)
+    ∙ marked-place (a .maps .rings) (a .back .part .start) (a .layer .source) (a .back .capture) (a .layer .depth) (leastOfClass (a .maps .rings) (a .maps .count)) (x .loop .r) (x .loop .tablebase)
     (x .loop .inv .4 (k .before .loop-test .taken)) _ (found k .1) in (
-      ap length e ∙ place-length (a .rings) (a .table .own .start) (a .source) (a .capture) (a .depth) (leastOfClass (a .rings) (a .maps)) (x .loop .r)
+      ap length e ∙ place-length (a .maps .rings) (a .back .part .start) (a .layer .source) (a .back .capture) (a .layer .depth) (leastOfClass (a .maps .rings) (a .maps .count)) (x .loop .r)
           (x .loop .tablebase),
-      e ∙ from-step (a .rings) (a .table .own .start) (a .source) (a .capture) (a .depth) (leastOfClass (a .rings) (a .maps)) (a .tablebase .now) (x .loop .r)
+      e ∙ from-step (a .maps .rings) (a .back .part .start) (a .layer .source) (a .back .capture) (a .layer .depth) (leastOfClass (a .maps .rings) (a .maps .count)) (a .tablebase .now) (x .loop .r)
           (x .loop .tablebase) (x .loop .inv .3),
     )
 
@@ -139,7 +133,7 @@ find-source-requires-2 c κs =
     let s = entered x in
     let a = s .args in (
       omega (arith, d .before .before .before .loop-test .taken),
-      λ h. let f = s .pre .1 .1 .1 .5 h in omega (arith, f, x .loop .inv .0, x .loop .inv .2, stepped d .0),
+      λ h. let f = s .pre .1 .stored h in omega (arith, f, x .loop .inv .0, x .loop .inv .2, stepped d .0),
     )
 
 loop-less : tie.Need-loop-less Inv-loop μ-loop
@@ -156,11 +150,11 @@ loop-again c =
       x .loop .inv .0,
       c .find-source2 .ensures .high,
       stepped d .0 ∙ x .loop .inv .2,
-      from-over (a .rings) (a .table .own .start) (a .source) (a .capture) (a .depth) (leastOfClass (a .rings) (a .maps)) (a .tablebase .now)
+      from-over (a .maps .rings) (a .back .part .start) (a .layer .source) (a .back .capture) (a .layer .depth) (leastOfClass (a .maps .rings) (a .maps .count)) (a .tablebase .now)
           (x .loop .r + 1) _ (c .find-source2 .result)
           (d .mark-source .last .0) (c .find-source2 .ensures) (stepped d .1),
       c .find-source2 .ensures .here,
-      stands-at (a .rings) (a .source .mover) (a .source .opponent) _ (x .loop .r) (k .seek .result) (k .seek .ensures .0) (k .seek .ensures .1),
+      stands-at (a .maps .rings) (a .layer .source .mover) (a .layer .source .opponent) _ (x .loop .r) (k .seek .result) (k .seek .ensures .0) (k .seek .ensures .1),
     )
 
 same-length : tie.Need-same-length Inv-loop μ-loop
@@ -170,8 +164,8 @@ returns : tie.Need-returns Inv-loop μ-loop
 returns c =
     let x = c .before in
     let a = entered x .args in
-    let e : x .loop .r ≡ size (8 * a .rings) (a .source .mover) (a .source .opponent) = omega (arith, c .loop-test .left, x .loop .inv .0, x .loop .inv .1) in
-    x .loop .inv .3 ∙ ap (markedFrom (a .rings) (a .table .own .start) (a .source) (a .capture) (a .depth) (leastOfClass (a .rings) (a .maps))
+    let e : x .loop .r ≡ size (8 * a .maps .rings) (a .layer .source .mover) (a .layer .source .opponent) = omega (arith, c .loop-test .left, x .loop .inv .0, x .loop .inv .1) in
+    x .loop .inv .3 ∙ ap (markedFrom (a .maps .rings) (a .back .part .start) (a .layer .source) (a .back .capture) (a .layer .depth) (leastOfClass (a .maps .rings) (a .maps .count))
     (a .tablebase .now)) e
 
 pub mark-table-spec : {M : Type 1} → statement M
@@ -180,7 +174,7 @@ mark-table-spec =
     (tie.spec
     Inv-loop
     μ-loop
-    mul-size
+    mul-points
     size-requires
     nowhere-requires
     find-source-requires
