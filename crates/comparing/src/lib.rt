@@ -3,85 +3,57 @@
 ghost use mathlib.Core.Path.{_≡_};
 ghost use Prim.Native.Nat.{_+_, _*_, _≤_, _<_};
 ghost use lib.ListN.{length};
-ghost use Rattle.board.specs.Board.{count, boardOf, OnBoard};
+ghost use Rattle.board.specs.Board.{boardOf};
 ghost use Rattle.sizes.specs.Size.{size};
 ghost use Rattle.sizes.specs.Binomial.{BinomialTable};
 ghost use Rattle.symmetry.specs.Symmetries.{symmetries};
 ghost use Rattle.invariance.specs.Used.{SymmetricFrom};
 ghost use Rattle.imaging.specs.Images.{RingImages};
 ghost use Rattle.parts.specs.Finding.{First};
-ghost use Rattle.comparing.specs.Compared.{imageHas, sameImages, isDecided, Decides};
+ghost use Rattle.comparing.specs.Compared.{Comparing, imageHas, sameImages, isDecided, Decides};
 use parts::DRAW;
 use sweeping::Source;
 
-// Whether the image of a position has an entry.
+// A position and its entry, in the table that starts at a place.
+pub struct Entered {
+    pub start: usize,
+    pub position: board::Position,
+    pub entry: u16,
+}
+
+// Whether the image of a position has its entry.
 fn image_has(
     tablebase: &[u16],
     binomials: &[u32; 625],
     images: &[u8; 2048],
     rings: usize,
-    start: usize,
-    position: board::Position,
-    entry: u16,
+    at: Entered,
     g: usize,
 ) -> bool
-    requires { ⌜ BinomialTable (now binomials) ⌝ }
-    requires { ⌜ RingImages (now images) ⌝ }
-    requires { ⌜ (rings ≤ 3) × (g < 16) × OnBoard (8 * rings) position
-        × (start + size (8 * rings) (count 1 (boardOf (8 * rings) position)) (count 2 (boardOf (8 * rings) position)) ≤ length (now tablebase)) ⌝ }
-    ensures { λ b. ⌜ b ≡ imageHas rings start (now (tablebase .entry)) (boardOf (8 * rings) position) entry g ⌝ }
+    requires { ⌜ Comparing (now binomials) (now images) (length (now tablebase)) rings at × (g < 16) ⌝ }
+    ensures { λ b. ⌜ b ≡ imageHas rings (at .start) (now (tablebase .entry)) (boardOf (8 * rings) (at .position)) (at .entry) g ⌝ }
 {
-    let turned = imaging::image_of(images, rings, g, position);
+    let start = at.start;
+    let entry = at.entry;
+    let turned = imaging::image_of(images, rings, g, at.position);
     let r = ranking::rank(binomials, 8 * rings, turned);
     tablebase[start + r] == entry
 }
 
-// Whether the images of a position by a turn, by a mirror and with the rings reversed have an entry.
+// Whether the images of a position by a turn, by a mirror and with the rings reversed have its entry.
 fn same_images(
     tablebase: &[u16],
     binomials: &[u32; 625],
     images: &[u8; 2048],
     rings: usize,
-    start: usize,
-    position: board::Position,
-    entry: u16,
+    at: Entered,
 ) -> bool
-    requires { ⌜ BinomialTable (now binomials) ⌝ }
-    requires { ⌜ RingImages (now images) ⌝ }
-    requires { ⌜ (rings ≤ 3) × OnBoard (8 * rings) position
-        × (start + size (8 * rings) (count 1 (boardOf (8 * rings) position)) (count 2 (boardOf (8 * rings) position)) ≤ length (now tablebase)) ⌝ }
-    ensures { λ b. ⌜ b ≡ sameImages rings start (now (tablebase .entry)) (boardOf (8 * rings) position) entry ⌝ }
+    requires { ⌜ Comparing (now binomials) (now images) (length (now tablebase)) rings at ⌝ }
+    ensures { λ b. ⌜ b ≡ sameImages rings (at .start) (now (tablebase .entry)) (boardOf (8 * rings) (at .position)) (at .entry) ⌝ }
 {
-    let turned = image_has(
-        tablebase,
-        binomials,
-        images,
-        rings,
-        start,
-        position,
-        entry,
-        1,
-    );
-    let mirrored = image_has(
-        tablebase,
-        binomials,
-        images,
-        rings,
-        start,
-        position,
-        entry,
-        4,
-    );
-    let reversed = image_has(
-        tablebase,
-        binomials,
-        images,
-        rings,
-        start,
-        position,
-        entry,
-        8,
-    );
+    let turned = image_has(tablebase, binomials, images, rings, at, 1);
+    let mirrored = image_has(tablebase, binomials, images, rings, at, 4);
+    let reversed = image_has(tablebase, binomials, images, rings, at, 8);
     turned & mirrored & reversed
 }
 
@@ -120,15 +92,18 @@ pub fn is_symmetric(
     let mut r = find_decided(tablebase, start, size, 0);
     while r < size {
         at = sweeping::seek(binomials, rings, table.mover, table.opponent, at, r);
+        let position = at.position;
         let entry = tablebase[start + r];
         if same_images(
             tablebase,
             binomials,
             images,
             rings,
-            start,
-            at.position,
-            entry,
+            Entered {
+                start: start,
+                position: position,
+                entry: entry,
+            },
         ) {
             r = find_decided(tablebase, start, size, r + 1);
         } else {

@@ -21,13 +21,13 @@ rank-requires : tie.Need-rank-requires
 rank-requires c κs = search needs
 
 -- the image stands in the table
-within : (c : tie.After-rank) → c .before .before .before .args .start + c .rank .result < length (c .before .before .before .args .tablebase .now)
+within : (c : tie.After-rank) → c .before .before .before .args .at .start + c .rank .result < length (c .before .before .before .args .tablebase .now)
 within c =
     let i = c .before in
     let s = i .before .before in
     let a = s .args in
-    let p = s .pre .1 .1 in
-    omega (arith, p .3, c .rank .ensures, image-rank (a .rings) (p .0) (a .g) (p .1) (a .position) (i .image-of .result) (p .2) (i .image-of .ensures .0))
+    let p = s .pre .0 in
+    omega (arith, p .room, c .rank .ensures, image-rank (a .rings) (p .small) (a .g) (s .pre .1) (a .at .position) (i .image-of .result) (p .on) (i .image-of .ensures .0))
 
 add-result : tie.Need-add-result
 add-result c = omega (arith, within c)
@@ -44,7 +44,7 @@ returns c =
     let k = c .before in
     let i = k .before in
     let a = i .before .before .args in
-    ap (λ (r : ℕ). eqb (getD (a .tablebase .now) (a .start + r) 0) (a .entry)) (k .rank .ensures ∙ ap rank (i .image-of .ensures .0))
+    ap (λ (r : ℕ). eqb (getD (a .tablebase .now) (a .at .start + r) 0) (a .at .entry)) (k .rank .ensures ∙ ap rank (i .image-of .ensures .0))
 
 pub image-has-spec : {M : Type 1} → statement M
 image-has-spec =

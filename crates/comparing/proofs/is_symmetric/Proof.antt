@@ -73,17 +73,17 @@ seek-requires c κs =
     (s .pre .0, ((s .pre .1 .1 .0, omega (arith, c .loop-test .taken, x .loop .inv .0)), λ h. x .loop .inv .3 (omega (arith, c .loop-test .taken))))
 
 add-entry : tie.Need-add-entry Inv-loop μ-loop
-add-entry c = let x = c .before .before in omega (arith, c .before .loop-test .taken, x .loop .inv .0, entered x .pre .1 .1 .3)
+add-entry c = let x = c .before .before .before in omega (arith, c .before .before .loop-test .taken, x .loop .inv .0, entered x .pre .1 .1 .3)
 
 mul-entry : tie.Need-mul-entry Inv-loop μ-loop
-mul-entry c = let x = c .before .before in omega (arith, c .before .loop-test .taken, x .loop .inv .0, entered x .pre .1 .1 .3)
+mul-entry c = let x = c .before .before .before in omega (arith, c .before .before .loop-test .taken, x .loop .inv .0, entered x .pre .1 .1 .3)
 
 shared-slice-read-entry : tie.Need-shared-slice-read-entry Inv-loop μ-loop
-shared-slice-read-entry c = let x = c .before .before .before in omega (arith, c .before .before .loop-test .taken, x .loop .inv .0, entered x .pre .1 .1 .3)
+shared-slice-read-entry c = let x = c .before .before .before .before in omega (arith, c .before .before .before .loop-test .taken, x .loop .inv .0, entered x .pre .1 .1 .3)
 
 same-images-requires : tie.Need-same-images-requires Inv-loop μ-loop
 same-images-requires c κs =
-    let k = c .before in
+    let k = c .before .before in
     let x = k .before .before in
     let s = entered x in
     let a = s .args in
@@ -92,19 +92,19 @@ same-images-requires c κs =
     let m = ap (count 1) (w .1) ∙ r .mover in
     let o = ap (count 2) (w .1) ∙ r .opponent in
     let z = ap₂ (size (8 * a .rings)) m o in
-    (s .pre .0, (s .pre .1 .0, (s .pre .1 .1 .0, w .0 .on, omega (arith, z, s .pre .1 .1 .3))))
+    record { binomials = s .pre .0; images = s .pre .1 .0; small = s .pre .1 .1 .0; on = w .0 .on; room = omega (arith, z, s .pre .1 .1 .3) }
 
 -- what is tested of it
 tested : (c : tie.After-same-images Inv-loop μ-loop)
-    → c .same-images .result ≡ sameImages (entered (c .before .before .before .before) .args .rings)
-    (entered (c .before .before .before .before) .args .table .start)
-    (entered (c .before .before .before .before) .args .tablebase .now)
-    (unrank (8 * entered (c .before .before .before .before) .args .rings) (entered (c .before .before .before .before) .args .table .mover)
-    (entered (c .before .before .before .before) .args .table .opponent) (c .before .before .before .before .loop .r))
-    (getD (entered (c .before .before .before .before) .args .tablebase .now)
-    (entered (c .before .before .before .before) .args .table .start + c .before .before .before .before .loop .r) 0)
+    → c .same-images .result ≡ sameImages (entered (c .before .before .before .before .before) .args .rings)
+    (entered (c .before .before .before .before .before) .args .table .start)
+    (entered (c .before .before .before .before .before) .args .tablebase .now)
+    (unrank (8 * entered (c .before .before .before .before .before) .args .rings) (entered (c .before .before .before .before .before) .args .table .mover)
+    (entered (c .before .before .before .before .before) .args .table .opponent) (c .before .before .before .before .before .loop .r))
+    (getD (entered (c .before .before .before .before .before) .args .tablebase .now)
+    (entered (c .before .before .before .before .before) .args .table .start + c .before .before .before .before .before .loop .r) 0)
 tested c =
-    let k = c .before .before in
+    let k = c .before .before .before in
     let x = k .before .before in
     let a = entered x .args in
     c .same-images .ensures
@@ -114,27 +114,27 @@ tested c =
 returns : tie.Need-returns Inv-loop μ-loop
 returns c =
     let t = c .before in
-    let k = t .before .before in
+    let k = t .before .before .before in
     let x = k .before .before in
     let a = entered x .args in
     λ w. clash (images-same (a .rings) (a .table .start) (a .table .mover) (a .table .opponent) (a .tablebase .now) (x .loop .r)
     (omega (arith, k .before .loop-test .taken, x .loop .inv .0)) w) (sym (tested t) ∙ c .if1 .left)
 
 add-find-decided : tie.Need-add-find-decided Inv-loop μ-loop
-add-find-decided c = omega (arith, c .before .before .before .before .loop-test .taken)
+add-find-decided c = omega (arith, c .before .before .before .before .before .loop-test .taken)
 
 find-decided-requires-2 : tie.Need-find-decided-requires-2 Inv-loop μ-loop
 find-decided-requires-2 c κs =
-    let x = c .before .before .before .before .before in
-    (omega (arith, c .before .before .before .before .loop-test .taken), omega (arith, x .loop .inv .0, entered x .pre .1 .1 .3))
+    let x = c .before .before .before .before .before .before in
+    (omega (arith, c .before .before .before .before .before .loop-test .taken), omega (arith, x .loop .inv .0, entered x .pre .1 .1 .3))
 
 loop-less : tie.Need-loop-less Inv-loop μ-loop
-loop-less c = omega (arith, c .before .before .before .before .before .loop-test .taken, c .find-decided2 .ensures .low)
+loop-less c = omega (arith, c .before .before .before .before .before .before .loop-test .taken, c .find-decided2 .ensures .low)
 
 loop-again : tie.Need-loop-again Inv-loop μ-loop
 loop-again c =
     let t = c .before .before in
-    let k = t .before .before in
+    let k = t .before .before .before in
     let x = k .before .before in
     let a = entered x .args in (
       x .loop .inv .0,
