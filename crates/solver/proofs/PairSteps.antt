@@ -14,7 +14,7 @@ use Rattle.game.specs.Game.{voidEntry}
 use Rattle.parts.specs.Parts.{partOf, leastFrom}
 use Rattle.parts.specs.Finding.{First, isAt}
 use Rattle.parts.proofs.LeastDepth.{least-cases, part-below}
-use Rattle.sweeping.specs.declared.tables.Part.{Part}
+use Rattle.parts.specs.declared.Part.{Part}
 use Rattle.sweeping.specs.declared.tables.Table.{Table}
 use Rattle.sweeping.specs.Levels.{blockedFirst, openDecided, Found}
 use Rattle.sweeping.specs.Marked.{levelByClasses}

@@ -19,8 +19,8 @@ use Rattle.parts.specs.Parts.{filledPart}
 use Rattle.parts.proofs.Filling.{filled-length, filled-in, filled-cases}
 use Rattle.sweeping.specs.declared.tables.Table.{Table}
 use Rattle.sweeping.specs.Tables.{Located}
-use Rattle.sweeping.specs.Levels.{Lies, Fits}
-use Rattle.solver.specs.Pairs.{Counted, pairFilled}
+use Rattle.sweeping.specs.Levels.{Counted, Lies, Fits}
+use Rattle.solver.specs.Pairs.{pairFilled}
 use Rattle.solver.specs.Solve.{Setting}
 use Rattle.sweeping.proofs.Probed.{reads-within}
 use Rattle.levels.proofs.Sides.{Side}
@@ -114,20 +114,22 @@ module _ {n rings k m o : ℕ} {a b : Table} (s : Setting n rings k m o a b) whe
   pub first-counted : Counted a
   first-counted =
       let p = s .pair in
-      let t = s .first in (
-        omega (arith, p .mover-high, s .few, t .mover-is),
-        omega (arith, p .opponent-low, t .opponent-is),
-        omega (arith, p .opponent-high, s .few, t .opponent-is),
-      )
+      let t = s .first in
+      record {
+        mover-most = omega (arith, p .mover-high, s .few, t .mover-is);
+        opponent-least = omega (arith, p .opponent-low, t .opponent-is);
+        opponent-most = omega (arith, p .opponent-high, s .few, t .opponent-is);
+      }
 
   pub second-counted : Counted b
   second-counted =
       let p = s .pair in
-      let t = s .second in (
-        omega (arith, p .opponent-high, s .few, t .mover-is),
-        omega (arith, p .mover-low, t .opponent-is),
-        omega (arith, p .mover-high, s .few, t .opponent-is),
-      )
+      let t = s .second in
+      record {
+        mover-most = omega (arith, p .opponent-high, s .few, t .mover-is);
+        opponent-least = omega (arith, p .mover-low, t .opponent-is);
+        opponent-most = omega (arith, p .mover-high, s .few, t .opponent-is);
+      }
 
 -- both tables filled with one value
 module _ (rings k m o : ℕ) (a b : Table) (now : List ℕ) (s : Setting (length now) rings k m o a b) (v : ℕ) where

@@ -5,13 +5,24 @@ use mathlib.Core.List.{List}
 use mathlib.Core.Logic.{_⊎_}
 use Prim.Native.Nat.{ℕ, _*_, _≤_, _<_, min}
 use lib.Dec.{eqb}
-use lib.ListN.{getD}
+use lib.ListN.{length, getD}
 use Rattle.sizes.specs.Size.{size}
 use Rattle.parts.specs.Parts.{partOf, filledPart, leastFrom}
-use Rattle.sweeping.specs.declared.tables.Part.{Part}
+use Rattle.parts.specs.declared.Part.{Part}
+use Rattle.layout.specs.Layout.{tablebaseLength}
+use Rattle.game.specs.Game.{voidEntry}
+use Rattle.outcomes.specs.Pair.{Pair, LowerValid}
+use Rattle.outcomes.specs.Order.{TrueOn, Before}
+use Rattle.invariance.specs.Used.{Used, LowerSymmetric}
+use Rattle.imaging.specs.declared.classes.Maps.{Maps}
+use Rattle.imaging.specs.Images.{RingImages}
 use Rattle.sweeping.specs.declared.tables.Table.{Table}
-use Rattle.sweeping.specs.Levels.{blockedFirst, openDecided, Found}
+use Rattle.sweeping.specs.Levels.{Fits, Counted, blockedFirst, openDecided, Found}
 use Rattle.sweeping.specs.Marked.{levelByClasses}
+use Rattle.solver.specs.declared.pairs.Tables.{Tables}
+use Rattle.solver.specs.declared.pairs.Bounds.{Bounds}
+use Rattle.solver.specs.declared.whole.Counts.{Counts}
+use Rattle.solver.specs.Solve.{Setting}
 
 -- both tables of a pair at level 0, or the one where they are the same
 unfoldable pub pairBlocked : ℕ → Table → Table → List ℕ → List ℕ
@@ -40,10 +51,6 @@ abbrev pub PairHeld : Table → Table → ℕ → List ℕ → Bool → Type 0
 PairHeld a b e tablebase true = (Holds tablebase (a .own) e ⊎ Holds tablebase (b .own) e) ⊎ (Holds tablebase (a .lower) e ⊎ Holds tablebase (b .lower) e)
 PairHeld a b e tablebase false = (Holds tablebase (a .own) e → ⊥) × (Holds tablebase (b .own) e → ⊥) × (Holds tablebase (a .lower) e → ⊥)
     × (Holds tablebase (b .lower) e → ⊥)
-
--- the counts of a table, three to the opponent at least
-abbrev pub Counted : Table → Type 0
-Counted t = (t .mover ≤ 24) × (3 ≤ t .opponent) × (t .opponent ≤ 24)
 
 -- whether a level beyond the limit wrote anything in a pair
 abbrev pub Beyond : Table → Table → ℕ → ℕ → List ℕ → Bool → Type 0
@@ -78,3 +85,50 @@ unfoldable pub pairLeast : Table → Table → ℕ → List ℕ → ℕ
 pairLeast a b low tablebase = min
     (min (leastFrom low (partOf (a .own .start) (a .own .end) tablebase)) (leastFrom low (partOf (b .own .start) (b .own .end) tablebase)))
     (min (leastFrom low (partOf (a .lower .start) (a .lower .end) tablebase)) (leastFrom low (partOf (b .lower .start) (b .lower .end) tablebase)))
+
+-- a level over the tables of a pair
+pub record PairSweeping (lent : List ℕ) (length : ℕ) (maps : Maps) (tables : Tables) (level : ℕ) : Type 0 where
+  pub images : RingImages lent
+  pub few : maps .count ≤ 16
+  pub first-fits : Fits length (maps .rings) (tables .first) (tables .second .own .start)
+  pub first-counted : Counted (tables .first)
+  pub second-fits : Fits length (maps .rings) (tables .second) (tables .first .own .start)
+  pub second-counted : Counted (tables .second)
+  pub above : 0 < level
+  pub level-low : level < voidEntry
+
+-- the tables of a pair, the lent images, and a number of maps under which the lower tables are symmetric; these hold no void
+pub record PairSolving (lent tablebase : List ℕ) (bounds : Bounds) (maps : ℕ) (tables : Tables) : Type 0 where
+  pub setting : Setting (length tablebase) (bounds .rings) (bounds .k) (tables .first .mover) (tables .first .opponent) (tables .first) (tables .second)
+  pub valid : LowerValid (bounds .rings) (bounds .k) (tables .first .mover) (tables .first .opponent) tablebase
+  pub limit-low : bounds .limit < voidEntry
+  pub images : RingImages lent
+  pub used : Used maps
+  pub symmetric : LowerSymmetric maps (bounds .rings) (bounds .k) (tables .first .mover) (tables .first .opponent) tablebase
+
+-- a pair of a tablebase by its counts, over lower tables that hold no void
+pub record PairGiven (lent tablebase : List ℕ) (bounds : Bounds) (counts : Counts) : Type 0 where
+  pub pair : Pair (bounds .rings) (bounds .k) (counts .mover) (counts .opponent)
+  pub few : bounds .k ≤ 9
+  pub room : length tablebase ≡ tablebaseLength (8 * bounds .rings) (bounds .k)
+  pub valid : LowerValid (bounds .rings) (bounds .k) (counts .mover) (counts .opponent) tablebase
+  pub limit-low : bounds .limit < voidEntry
+  pub images : RingImages lent
+
+-- the pairs with m stones to the larger side, where all smaller pairs are filled
+pub record RowGiven (lent tablebase : List ℕ) (bounds : Bounds) (maps m : ℕ) : Type 0 where
+  pub pair : Pair (bounds .rings) (bounds .k) m m
+  pub few : bounds .k ≤ 9
+  pub room : length tablebase ≡ tablebaseLength (8 * bounds .rings) (bounds .k)
+  pub done : TrueOn (bounds .rings) (bounds .k) (bounds .limit) (Before m 3) tablebase
+  pub limit-low : bounds .limit < voidEntry
+  pub images : RingImages lent
+  pub used : Used maps
+
+-- a whole tablebase
+pub record AllGiven (lent : List ℕ) (length : ℕ) (bounds : Bounds) : Type 0 where
+  pub some : 3 ≤ bounds .k
+  pub few : bounds .k ≤ 9
+  pub room : length ≡ tablebaseLength (8 * bounds .rings) (bounds .k)
+  pub limit-low : bounds .limit < voidEntry
+  pub images : RingImages lent

@@ -1,20 +1,22 @@
 // A pair over given lower tables: whether these hold a void, and by how many maps the pair may be filled. Given entries need not be the same for all
 // images of a position.
 ghost use mathlib.Core.Path.{_≡_};
-ghost use Prim.Native.Nat.{_-_, _*_, _≤_, _<_};
+ghost use Prim.Native.Nat.{_-_, _*_, _≤_};
 ghost use lib.ListN.{length};
 ghost use Rattle.sizes.specs.Binomial.{BinomialTable};
 ghost use Rattle.layout.specs.Layout.{tablebaseLength};
-ghost use Rattle.plies.specs.Masks.{NeighbourMasks, MillMasks};
-ghost use Rattle.game.specs.Game.{voidEntry};
 ghost use Rattle.symmetry.specs.Symmetries.{symmetries};
 ghost use Rattle.outcomes.specs.Places.{lowerVoid};
-ghost use Rattle.outcomes.specs.Pair.{Pair, LowerValid};
+ghost use Rattle.outcomes.specs.Pair.{Pair};
 ghost use Rattle.invariance.specs.Used.{Used, TableSymmetric, LowerSymmetric};
 ghost use Rattle.imaging.specs.Images.{RingImages};
 ghost use Rattle.comparing.specs.Compared.{Decides};
+ghost use Rattle.probing.specs.Questions.{Lent};
+ghost use Rattle.solver.specs.Pairs.{PairGiven};
 ghost use Rattle.solver.specs.Solve.{PairFill};
+use super::pairs::Bounds;
 use super::whole;
+use super::whole::Counts;
 use sweeping::Source;
 
 // Whether an entry is void in the lower tables of the pair (m, o) and (o, m).
@@ -32,10 +34,7 @@ pub fn lower_void(
 {
     let first = sweeping::table_of(binomials, 8 * rings, k, m, o);
     let second = sweeping::table_of(binomials, 8 * rings, k, o, m);
-    let one = first.lower;
-    let two = second.lower;
-    parts::void_within(tablebase, one.start, one.end)
-        | parts::void_within(tablebase, two.start, two.end)
+    parts::void_within(tablebase, first.lower) | parts::void_within(tablebase, second.lower)
 }
 
 // Whether table (o - 1, m), which a removal from (m, o) leads to, has one entry for all images of a position; there is none where that leaves two stones.
@@ -100,34 +99,24 @@ fn given_maps(
 pub fn solve_given(
     tablebase: &mut [u16],
     binomials: &[u32; 625],
-    near: &[u32; 24],
-    mills: &[u32; 48],
+    masks: &[u32; 72],
     images: &[u8; 2048],
-    rings: usize,
-    k: usize,
-    m: usize,
-    o: usize,
-    limit: u16,
+    bounds: Bounds,
+    counts: Counts,
 ) -> bool
-    requires { ⌜ BinomialTable (now binomials) ⌝ }
-    requires { ⌜ NeighbourMasks rings (now near) ⌝ }
-    requires { ⌜ MillMasks rings (now mills) ⌝ }
-    requires { ⌜ Pair rings k m o × (k ≤ 9) × (length (now tablebase) ≡ tablebaseLength (8 * rings) k) ⌝ }
-    requires { ⌜ LowerValid rings k m o (now tablebase) × (limit < voidEntry) × RingImages (now images) ⌝ }
-    ensures { λ deep. ⌜ PairFill rings k m o limit (now (tablebase .entry)) (now (tablebase .exit)) deep ⌝ }
+    requires { ⌜ Lent (bounds .rings) (now binomials) (now masks) ⌝ }
+    requires { ⌜ PairGiven (now images) (now tablebase) bounds counts ⌝ }
+    ensures { λ deep. ⌜ PairFill (bounds .rings) (bounds .k) (counts .mover) (counts .opponent) (bounds .limit) (now (tablebase .entry))
+        (now (tablebase .exit)) deep ⌝ }
 {
-    let maps = given_maps(tablebase, binomials, images, rings, k, m, o);
-    whole::solve_pair(
+    let maps = given_maps(
         tablebase,
         binomials,
-        near,
-        mills,
         images,
-        rings,
-        maps,
-        k,
-        m,
-        o,
-        limit,
-    )
+        bounds.rings,
+        bounds.k,
+        counts.mover,
+        counts.opponent,
+    );
+    whole::solve_pair(tablebase, binomials, masks, images, bounds, maps, counts)
 }

@@ -5,4 +5,6 @@ mod whole;
 
 pub use given::lower_void;
 pub use given::solve_given;
+pub use pairs::Bounds;
+pub use whole::Counts;
 pub use whole::solve_all;

@@ -4,37 +4,48 @@
 ghost use mathlib.Core.Path.{_≡_};
 ghost use Prim.Native.Nat.{_*_, _≤_, _<_, min};
 ghost use lib.ListN.{length};
-ghost use Rattle.sizes.specs.Binomial.{BinomialTable};
-ghost use Rattle.plies.specs.Masks.{NeighbourMasks, MillMasks};
 ghost use Rattle.game.specs.Game.{voidEntry};
-ghost use Rattle.outcomes.specs.Pair.{LowerValid};
+ghost use Rattle.probing.specs.Questions.{Lent};
 ghost use Rattle.sweeping.specs.Levels.{Lies, Fits};
-ghost use Rattle.invariance.specs.Used.{Used, LowerSymmetric};
-ghost use Rattle.imaging.specs.Images.{RingImages, leastOfClass};
-ghost use Rattle.solver.specs.Pairs.{PartIn, InRoom, Counted, Held, Beyond, PairHeld, pairBlocked, pairByClasses, pairFilled, pairLeast, PairFound};
-ghost use Rattle.solver.specs.Solve.{Setting, PairFill};
+ghost use Rattle.imaging.specs.Images.{leastOfClass};
+ghost use Rattle.solver.specs.Pairs.{PartIn, InRoom, PairSweeping, PairSolving, Held, Beyond, PairHeld, pairBlocked, pairByClasses, pairFilled, pairLeast, PairFound};
+ghost use Rattle.solver.specs.Solve.{PairFill};
+use imaging::Maps;
 use parts::DRAW;
+use parts::Part;
 use parts::VOID;
-use sweeping::Part;
+use sweeping::Sweep;
 use sweeping::Table;
 
-// Both tables of a pair at level 0; they are one where both sides have as many stones.
+// The tables (m, o) and (o, m) of a pair; they are one where both sides have as many stones.
+pub struct Tables {
+    pub first: Table,
+    pub second: Table,
+}
+
+// The rings and the largest count of a tablebase, and the limit of its depths.
+pub struct Bounds {
+    pub rings: usize,
+    pub k: usize,
+    pub limit: u16,
+}
+
+// Both tables of a pair at level 0.
 fn sweep_pair(
     tablebase: &mut [u16],
     binomials: &[u32; 625],
-    near: &[u32; 24],
+    masks: &[u32; 72],
     rings: usize,
-    first: Table,
-    second: Table,
+    tables: Tables,
 )
-    requires { ⌜ BinomialTable (now binomials) ⌝ }
-    requires { ⌜ NeighbourMasks rings (now near) ⌝ }
-    requires { ⌜ (rings ≤ 3) × Lies (8 * rings) first (length (now tablebase)) × Lies (8 * rings) second (length (now tablebase)) ⌝ }
-    ensures { λ _. ⌜ now (tablebase .exit) ≡ pairBlocked rings first second (now (tablebase .entry)) ⌝ }
+    requires { ⌜ Lent rings (now binomials) (now masks) ⌝ }
+    requires { ⌜ Lies (8 * rings) (tables .first) (length (now tablebase)) × Lies (8 * rings) (tables .second) (length (now tablebase)) ⌝ }
+    ensures { λ _. ⌜ now (tablebase .exit) ≡ pairBlocked rings (tables .first) (tables .second) (now (tablebase .entry)) ⌝ }
 {
-    sweeping::sweep_blocked(tablebase, binomials, near, rings, first);
+    let first = tables.first;
+    sweeping::sweep_blocked(tablebase, binomials, masks, rings, first);
     if first.mover != first.opponent {
-        sweeping::sweep_blocked(tablebase, binomials, near, rings, second);
+        sweeping::sweep_blocked(tablebase, binomials, masks, rings, tables.second);
     }
 }
 
@@ -42,48 +53,46 @@ fn sweep_pair(
 fn level_pair(
     tablebase: &mut [u16],
     binomials: &[u32; 625],
-    near: &[u32; 24],
-    mills: &[u32; 48],
+    masks: &[u32; 72],
     images: &[u8; 2048],
-    rings: usize,
-    maps: usize,
-    first: Table,
-    second: Table,
+    maps: Maps,
+    tables: Tables,
     level: u16,
 )
-    requires { ⌜ BinomialTable (now binomials) ⌝ }
-    requires { ⌜ NeighbourMasks rings (now near) ⌝ }
-    requires { ⌜ MillMasks rings (now mills) ⌝ }
-    requires { ⌜ Fits (length (now tablebase)) rings first (second .own .start) × Counted first × Fits (length (now tablebase)) rings second (first .own .start)
-        × Counted second × (0 < level) × (level < voidEntry) × RingImages (now images) × (maps ≤ 16) ⌝ }
-    ensures { λ _. ⌜ now (tablebase .exit) ≡ pairByClasses rings first second level maps (leastOfClass rings maps) (now (tablebase .entry)) ⌝ }
+    requires { ⌜ Lent (maps .rings) (now binomials) (now masks) ⌝ }
+    requires { ⌜ PairSweeping (now images) (length (now tablebase)) maps tables level ⌝ }
+    ensures { λ _. ⌜ now (tablebase .exit)
+        ≡ pairByClasses (maps .rings) (tables .first) (tables .second) level (maps .count) (leastOfClass (maps .rings) (maps .count))
+        (now (tablebase .entry)) ⌝ }
 {
+    let first = tables.first;
+    let second = tables.second;
     let one = first.own;
     let two = second.own;
     sweeping::level_table(
         tablebase,
         binomials,
-        near,
-        mills,
+        masks,
         images,
-        rings,
         maps,
-        first,
-        two.start,
-        level,
+        Sweep {
+            table: first,
+            same: two.start,
+            level: level,
+        },
     );
     if first.mover != first.opponent {
         sweeping::level_table(
             tablebase,
             binomials,
-            near,
-            mills,
+            masks,
             images,
-            rings,
             maps,
-            second,
-            one.start,
-            level,
+            Sweep {
+                table: second,
+                same: one.start,
+                level: level,
+            },
         );
     }
 }
@@ -98,16 +107,18 @@ fn holds(tablebase: &[u16], part: Part, entry: u16) -> bool
 }
 
 // Whether a level beyond the limit wrote anything in a pair.
-fn beyond(tablebase: &[u16], first: Table, second: Table, limit: u16, level: u16) -> bool
-    requires { ⌜ InRoom (length (now tablebase)) first second ⌝ }
-    ensures { λ b. ⌜ Beyond first second limit level (now (tablebase .entry)) b ⌝ }
+fn beyond(tablebase: &[u16], tables: Tables, limit: u16, level: u16) -> bool
+    requires { ⌜ InRoom (length (now tablebase)) (tables .first) (tables .second) ⌝ }
+    ensures { λ b. ⌜ Beyond (tables .first) (tables .second) limit level (now (tablebase .entry)) b ⌝ }
 {
     if level <= limit {
         return false;
     }
+    let first = tables.first;
     if holds(tablebase, first.own, level) {
         return true;
     }
+    let second = tables.second;
     holds(tablebase, second.own, level)
 }
 
@@ -115,35 +126,34 @@ fn beyond(tablebase: &[u16], first: Table, second: Table, limit: u16, level: u16
 fn pair_decided(
     tablebase: &[u16],
     binomials: &[u32; 625],
-    near: &[u32; 24],
-    mills: &[u32; 48],
+    masks: &[u32; 72],
     rings: usize,
-    first: Table,
-    second: Table,
+    tables: Tables,
 ) -> bool
-    requires { ⌜ BinomialTable (now binomials) ⌝ }
-    requires { ⌜ NeighbourMasks rings (now near) ⌝ }
-    requires { ⌜ MillMasks rings (now mills) ⌝ }
-    requires { ⌜ Fits (length (now tablebase)) rings first (second .own .start) × Fits (length (now tablebase)) rings second (first .own .start) ⌝ }
-    ensures { λ b. ⌜ PairFound rings first second (now (tablebase .entry)) b ⌝ }
+    requires { ⌜ Lent rings (now binomials) (now masks) ⌝ }
+    requires { ⌜ Fits (length (now tablebase)) rings (tables .first) (tables .second .own .start)
+        × Fits (length (now tablebase)) rings (tables .second) (tables .first .own .start) ⌝ }
+    ensures { λ b. ⌜ PairFound rings (tables .first) (tables .second) (now (tablebase .entry)) b ⌝ }
 {
+    let first = tables.first;
+    let second = tables.second;
     let one = first.own;
     let two = second.own;
-    if sweeping::some_decided(tablebase, binomials, near, mills, rings, first, two.start) {
+    if sweeping::some_decided(tablebase, binomials, masks, rings, first, two.start) {
         return true;
     }
-    sweeping::some_decided(tablebase, binomials, near, mills, rings, second, one.start)
+    sweeping::some_decided(tablebase, binomials, masks, rings, second, one.start)
 }
 
 // Both tables filled with one value.
-fn fill_pair(tablebase: &mut [u16], first: Table, second: Table, v: u16)
-    requires { ⌜ InRoom (length (now tablebase)) first second ⌝ }
-    ensures { λ _. ⌜ now (tablebase .exit) ≡ pairFilled first second v (now (tablebase .entry)) ⌝ }
+fn fill_pair(tablebase: &mut [u16], tables: Tables, v: u16)
+    requires { ⌜ InRoom (length (now tablebase)) (tables .first) (tables .second) ⌝ }
+    ensures { λ _. ⌜ now (tablebase .exit) ≡ pairFilled (tables .first) (tables .second) v (now (tablebase .entry)) ⌝ }
 {
-    let one = first.own;
-    parts::fill_table(tablebase, one.start, one.end, v);
-    let two = second.own;
-    parts::fill_table(tablebase, two.start, two.end, v);
+    let first = tables.first;
+    parts::fill_table(tablebase, first.own, v);
+    let second = tables.second;
+    parts::fill_table(tablebase, second.own, v);
 }
 
 // The lower of two numbers.
@@ -157,10 +167,12 @@ fn least(a: u16, b: u16) -> u16
 }
 
 // Whether an entry stands in one of the two tables or their lower tables.
-fn pair_holds(tablebase: &[u16], first: Table, second: Table, entry: u16) -> bool
-    requires { ⌜ InRoom (length (now tablebase)) first second ⌝ }
-    ensures { λ b. ⌜ PairHeld first second entry (now (tablebase .entry)) b ⌝ }
+fn pair_holds(tablebase: &[u16], tables: Tables, entry: u16) -> bool
+    requires { ⌜ InRoom (length (now tablebase)) (tables .first) (tables .second) ⌝ }
+    ensures { λ b. ⌜ PairHeld (tables .first) (tables .second) entry (now (tablebase .entry)) b ⌝ }
 {
+    let first = tables.first;
+    let second = tables.second;
     if holds(tablebase, first.own, entry) {
         return true;
     }
@@ -174,21 +186,19 @@ fn pair_holds(tablebase: &[u16], first: Table, second: Table, entry: u16) -> boo
 }
 
 // The least depth from `low` on in both tables and their lower tables, void where there is none. Most often it is `low`, which is found sooner.
-fn pair_least(tablebase: &[u16], first: Table, second: Table, low: u16) -> u16
-    requires { ⌜ InRoom (length (now tablebase)) first second × (low < voidEntry) ⌝ }
-    ensures { λ r. ⌜ r ≡ pairLeast first second low (now (tablebase .entry)) ⌝ }
+fn pair_least(tablebase: &[u16], tables: Tables, low: u16) -> u16
+    requires { ⌜ InRoom (length (now tablebase)) (tables .first) (tables .second) × (low < voidEntry) ⌝ }
+    ensures { λ r. ⌜ r ≡ pairLeast (tables .first) (tables .second) low (now (tablebase .entry)) ⌝ }
 {
-    if pair_holds(tablebase, first, second, low) {
+    if pair_holds(tablebase, tables, low) {
         return low;
     }
-    let one = first.own;
-    let two = second.own;
-    let under_one = first.lower;
-    let under_two = second.lower;
-    let a = parts::least_depth(tablebase, one.start, one.end, low);
-    let b = parts::least_depth(tablebase, two.start, two.end, low);
-    let c = parts::least_depth(tablebase, under_one.start, under_one.end, low);
-    let d = parts::least_depth(tablebase, under_two.start, under_two.end, low);
+    let first = tables.first;
+    let second = tables.second;
+    let a = parts::least_depth(tablebase, first.own, low);
+    let b = parts::least_depth(tablebase, second.own, low);
+    let c = parts::least_depth(tablebase, first.lower, low);
+    let d = parts::least_depth(tablebase, second.lower, low);
     least(least(a, b), least(c, d))
 }
 
@@ -196,51 +206,44 @@ fn pair_least(tablebase: &[u16], first: Table, second: Table, low: u16) -> u16
 pub fn solve_tables(
     tablebase: &mut [u16],
     binomials: &[u32; 625],
-    near: &[u32; 24],
-    mills: &[u32; 48],
+    masks: &[u32; 72],
     images: &[u8; 2048],
-    rings: usize,
+    bounds: Bounds,
     maps: usize,
-    k: usize,
-    first: Table,
-    second: Table,
-    limit: u16,
+    tables: Tables,
 ) -> bool
-    requires { ⌜ BinomialTable (now binomials) ⌝ }
-    requires { ⌜ NeighbourMasks rings (now near) ⌝ }
-    requires { ⌜ MillMasks rings (now mills) ⌝ }
-    requires { ⌜ Setting (length (now tablebase)) rings k (first .mover) (first .opponent) first second ⌝ }
-    requires { ⌜ LowerValid rings k (first .mover) (first .opponent) (now tablebase) × (limit < voidEntry)
-        × RingImages (now images) × Used maps × LowerSymmetric maps rings k (first .mover) (first .opponent) (now tablebase) ⌝ }
-    ensures { λ deep. ⌜ PairFill rings k (first .mover) (first .opponent) limit (now (tablebase .entry)) (now (tablebase .exit)) deep ⌝ }
+    requires { ⌜ Lent (bounds .rings) (now binomials) (now masks) ⌝ }
+    requires { ⌜ PairSolving (now images) (now tablebase) bounds maps tables ⌝ }
+    ensures { λ deep. ⌜ PairFill (bounds .rings) (bounds .k) (tables .first .mover) (tables .first .opponent) (bounds .limit) (now (tablebase .entry))
+        (now (tablebase .exit)) deep ⌝ }
 {
-    fill_pair(tablebase, first, second, DRAW);
-    sweep_pair(tablebase, binomials, near, rings, first, second);
+    fill_pair(tablebase, tables, DRAW);
+    sweep_pair(tablebase, binomials, masks, bounds.rings, tables);
     let mut level: u16 = 1;
     while level < VOID {
         level_pair(
             tablebase,
             binomials,
-            near,
-            mills,
+            masks,
             images,
-            rings,
-            maps,
-            first,
-            second,
+            Maps {
+                rings: bounds.rings,
+                count: maps,
+            },
+            tables,
             level,
         );
-        if beyond(tablebase, first, second, limit, level) {
-            fill_pair(tablebase, first, second, VOID);
+        if beyond(tablebase, tables, bounds.limit, level) {
+            fill_pair(tablebase, tables, VOID);
             return true;
         }
-        level = 1 + pair_least(tablebase, first, second, level);
+        level = 1 + pair_least(tablebase, tables, level);
     }
     if VOID < level {
         return false;
     }
-    if pair_decided(tablebase, binomials, near, mills, rings, first, second) {
-        fill_pair(tablebase, first, second, VOID);
+    if pair_decided(tablebase, binomials, masks, bounds.rings, tables) {
+        fill_pair(tablebase, tables, VOID);
         return true;
     }
     false

@@ -10,8 +10,7 @@ solve-pair-requires : tie.Need-solve-pair-requires
 solve-pair-requires c κs =
     let g = c .before .given-maps .ensures in
     let s = c .before .before .before .before in
-    let p = s .pre .1 .1 .1 in
-    (s .pre .0, (s .pre .1 .0, (s .pre .1 .1 .0, (p .0, (p .1 .0, p .1 .1, p .1 .2, g .0, g .1)))))
+    (s .pre .0, (s .pre .1, g .0, g .1))
 
 same-length : tie.Need-same-length
 same-length c = search needs

@@ -17,7 +17,7 @@ same-length c = search needs
 returns : tie.Need-returns
 returns c =
     let s = c .before .before .before .before .before .before .before .before .before .before .before in
-    let b = s .args .second .own in
+    let b = s .args .tables .second .own in
     c .before .before .fill-table2 .ensures ∙ ap (filledPart (b .start) (b .end) (s .args .v))
     (c .before .before .before .before .before .before .before .fill-table .ensures)
 

@@ -12,35 +12,20 @@ use Rattle.solver.proofs.pairs.level_pair.Tie as tie
 
 level-table-requires : tie.Need-level-table-requires
 level-table-requires c κs =
-    let s = c .before .before .before .before in
-    let p = s .pre .1 .1 .1 in
-    (s .pre .0, (s .pre .1 .0, (s .pre .1 .1 .0, (p .0, p .1 .0, p .1 .1, p .1 .2, p .4, p .5, p .6, p .7))))
+    let s = c .before .before .before .before .before .before in
+    let p = s .pre .1 in
+    (s .pre .0, (record { images = p .images; few = p .few; fits = p .first-fits; level-low = p .level-low }, p .first-counted, p .above))
 
 level-table-requires-2 : tie.Need-level-table-requires-2
 level-table-requires-2 c κs =
-    let s = c .before .before .before .before .before .before .before .before .before .before in
+    let s = c .before .before .before .before .before .before .before .before .before .before .before .before in
     let a = s .args in
-    let p = s .pre .1 .1 .1 in
+    let p = s .pre .1 in
     let e = ap length (c .before .before .before .before .before .level-table .ensures)
-    ∙ level-length (a .rings) (a .first) (a .second .own .start) (a .level) (a .maps) (leastOfClass (a .rings) (a .maps)) (a .tablebase .now) in (
-      s .pre .0,
-      (
-        s .pre .1 .0,
-        (
-          s .pre .1 .1 .0,
-          (
-            subst (λ (n : ℕ). Fits n (a .rings) (a .second) (a .first .own .start)) (sym e) (p .2),
-            p .3 .0,
-            p .3 .1,
-            p .3 .2,
-            p .4,
-            p .5,
-            p .6,
-            p .7,
-          ),
-        ),
-      ),
-    )
+    ∙ level-length (a .maps .rings) (a .tables .first) (a .tables .second .own .start) (a .level) (a .maps .count)
+    (leastOfClass (a .maps .rings) (a .maps .count)) (a .tablebase .now) in
+    let f = subst (λ (n : ℕ). Fits n (a .maps .rings) (a .tables .second) (a .tables .first .own .start)) (sym e) (p .second-fits) in
+    (s .pre .0, (record { images = p .images; few = p .few; fits = f; level-low = p .level-low }, p .second-counted, p .above))
 
 same-length : tie.Need-same-length
 same-length c = search needs
@@ -48,10 +33,10 @@ same-length c = search needs
 returns : tie.Need-returns
 returns c =
     let k = c .before .before .before .before .before .before .before .before in
-    let a = k .before .before .before .before .before .args in
+    let a = k .before .before .before .before .before .before .before .args in
     c .before .before .level-table2 .ensures
-    ∙ level-twice (a .rings) (a .first) (a .second) (a .tablebase .now) (k .level-table .last .0) (a .level) (a .maps)
-    (leastOfClass (a .rings) (a .maps)) (k .level-table .ensures)
+    ∙ level-twice (a .maps .rings) (a .tables .first) (a .tables .second) (a .tablebase .now) (k .level-table .last .0) (a .level) (a .maps .count)
+    (leastOfClass (a .maps .rings) (a .maps .count)) (k .level-table .ensures)
     (c .before .before .before .before .if1 .taken)
 
 same-length-2 : tie.Need-same-length-2
@@ -60,8 +45,8 @@ same-length-2 c = search needs
 returns-2 : tie.Need-returns-2
 returns-2 c =
     let k = c .before .before .before .before in
-    let a = k .before .before .before .before .before .args in
-    level-once (a .rings) (a .first) (a .second) (a .tablebase .now) (k .level-table .last .0) (a .level) (a .maps) (leastOfClass (a .rings) (a .maps))
+    let a = k .before .before .before .before .before .before .before .args in
+    level-once (a .maps .rings) (a .tables .first) (a .tables .second) (a .tablebase .now) (k .level-table .last .0) (a .level) (a .maps .count) (leastOfClass (a .maps .rings) (a .maps .count))
     (k .level-table .ensures) (c .if1 .left)
 
 pub level-pair-spec : {M : Type 1} → statement M

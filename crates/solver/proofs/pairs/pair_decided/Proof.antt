@@ -18,8 +18,8 @@ some-decided-requires-2 c κs = search needs
 
 returns-2 : tie.Need-returns-2
 returns-2 c =
-    let s = c .before .before .before .before .before .before in
-    second-found (s .args .rings) (s .args .first) (s .args .second) (s .args .tablebase .now)
+    let s = c .before .before .before .before .before .before .before .before in
+    second-found (s .args .rings) (s .args .tables .first) (s .args .tables .second) (s .args .tablebase .now)
     (subst (Found _ _) (c .before .if1 .left) (c .before .before .some-decided .ensures)) (c .some-decided2 .result) (c .some-decided2 .ensures)
 
 pub pair-decided-spec : {M : Type 1} → statement M

@@ -33,8 +33,8 @@ returns-4 c =
     let t = c .before in
     let u = t .before .before in
     let v = u .before .before in
-    let a = v .before .before .before .args in
-    last-held (a .first) (a .second) (a .entry) (a .tablebase .now) (subst (Held _ _ _) (v .if1 .left) (v .before .holds .ensures))
+    let a = v .before .before .before .before .before .args in
+    last-held (a .tables .first) (a .tables .second) (a .entry) (a .tablebase .now) (subst (Held _ _ _) (v .if1 .left) (v .before .holds .ensures))
     (subst (Held _ _ _) (u .if2 .left) (u .before .holds2 .ensures)) (subst (Held _ _ _) (t .if3 .left) (t .before .holds3 .ensures)) (c .holds4 .result)
     (c .holds4 .ensures)
 

@@ -14,8 +14,8 @@ returns : tie.Need-returns
 returns c =
     let s = c .before .before .before in
     let a = s .args in
-    least-held (a .first) (a .second) (a .low) (a .tablebase .now) (s .pre .1) (s .pre .0)
-    (subst (PairHeld (a .first) (a .second) (a .low) (a .tablebase .now)) (c .if1 .taken) (c .before .pair-holds .ensures))
+    least-held (a .tables .first) (a .tables .second) (a .low) (a .tablebase .now) (s .pre .1) (s .pre .0)
+    (subst (PairHeld (a .tables .first) (a .tables .second) (a .low) (a .tablebase .now)) (c .if1 .taken) (c .before .pair-holds .ensures))
 
 least-depth-requires : tie.Need-least-depth-requires
 least-depth-requires c κs = search needs
@@ -42,9 +42,9 @@ returns-2 : tie.Need-returns-2
 returns-2 c =
     let e = c .before .before in
     let f = e .before in
-    let a = f .before .before .before .before .before .before .before .before .before .before .before .args in
+    let a = f .before .before .before .before .before .before .before .before .before .args in
     c .least3 .ensures ∙ ap₂ min (e .least .ensures) (c .before .least2 .ensures)
-    ∙ least-of (a .first) (a .second) (a .low) (a .tablebase .now) (f .before .before .before .least-depth .result) (f .before .before .least-depth2 .result)
+    ∙ least-of (a .tables .first) (a .tables .second) (a .low) (a .tablebase .now) (f .before .before .before .least-depth .result) (f .before .before .least-depth2 .result)
     (f .before .least-depth3 .result) (f .least-depth4 .result) (f .before .before .before .least-depth .ensures) (f .before .before .least-depth2 .ensures)
     (f .before .least-depth3 .ensures) (f .least-depth4 .ensures)
 

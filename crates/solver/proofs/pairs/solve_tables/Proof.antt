@@ -24,77 +24,77 @@ use Rattle.solver.proofs.pairs.solve_tables.Statement.{statement}
 use Rattle.solver.proofs.pairs.solve_tables.Tie as tie
 
 abbrev Inv-loop : tie.InvT-loop
-Inv-loop tablebase₀ binomials near mills images rings maps k first second limit level₀ tablebase level =
-    (before : List ℕ) (s : Setting (length before) rings k (first .mover) (first .opponent) first second)
-    (valid : LowerValid rings k (first .mover) (first .opponent) before) → LowerSymmetric maps rings k (first .mover) (first .opponent) before
-    → tablebase₀ ≡ pairBlocked rings first second (pairFilled first second drawEntry before)
-    → (0 < level) × State rings k (first .mover) (first .opponent) first second before s valid limit level tablebase
+Inv-loop tablebase₀ binomials masks images bounds maps tables level₀ tablebase level =
+    (before : List ℕ) (s : Setting (length before) (bounds .rings) (bounds .k) (tables .first .mover) (tables .first .opponent) (tables .first) (tables .second))
+    (valid : LowerValid (bounds .rings) (bounds .k) (tables .first .mover) (tables .first .opponent) before) → LowerSymmetric maps (bounds .rings) (bounds .k) (tables .first .mover) (tables .first .opponent) before
+    → tablebase₀ ≡ pairBlocked (bounds .rings) (tables .first) (tables .second) (pairFilled (tables .first) (tables .second) drawEntry before)
+    → (0 < level) × State (bounds .rings) (bounds .k) (tables .first .mover) (tables .first .opponent) (tables .first) (tables .second) before s valid (bounds .limit) level tablebase
 
 abbrev μ-loop : tie.MeasureT-loop
-μ-loop tablebase₀ binomials near mills images rings maps k first second limit level₀ tablebase level = voidEntry - level
+μ-loop tablebase₀ binomials masks images bounds maps tables level₀ tablebase level = voidEntry - level
 
 -- the entry of the function, seen from the loop
 abbrev entered : tie.At-loop Inv-loop μ-loop → tie.Start Inv-loop μ-loop
 entered x = x .before .before .before .before .before .before .before .before .before .before
 
 -- what holds where the loop begins again
-state : (x : tie.At-loop Inv-loop μ-loop) → (0 < x .loop .level) × State (entered x .args .rings) (entered x .args .k) (entered x .args .first .mover)
-    (entered x .args .first .opponent) (entered x .args .first) (entered x .args .second) (entered x .args .tablebase .now)
-    (entered x .pre .1 .1 .1 .0) (entered x .pre .1 .1 .1 .1 .0) (entered x .args .limit) (x .loop .level) (x .loop .tablebase)
+state : (x : tie.At-loop Inv-loop μ-loop) → (0 < x .loop .level) × State (entered x .args .bounds .rings) (entered x .args .bounds .k) (entered x .args .tables .first .mover)
+    (entered x .args .tables .first .opponent) (entered x .args .tables .first) (entered x .args .tables .second) (entered x .args .tablebase .now)
+    (entered x .pre .1 .setting) (entered x .pre .1 .valid) (entered x .args .bounds .limit) (x .loop .level) (x .loop .tablebase)
 state x =
     let s = entered x in
     let a = s .args in
-    x .loop .inv (a .tablebase .now) (s .pre .1 .1 .1 .0) (s .pre .1 .1 .1 .1 .0) (s .pre .1 .1 .1 .1 .4)
+    x .loop .inv (a .tablebase .now) (s .pre .1 .setting) (s .pre .1 .valid) (s .pre .1 .symmetric)
     (x .before .before .before .sweep-pair .ensures
-    ∙ ap (pairBlocked (a .rings) (a .first) (a .second)) (x .before .before .before .before .before .before .before .fill-pair .ensures))
+    ∙ ap (pairBlocked (a .bounds .rings) (a .tables .first) (a .tables .second)) (x .before .before .before .before .before .before .before .fill-pair .ensures))
 
-here : (x : tie.At-loop Inv-loop μ-loop) → Setting (length (x .loop .tablebase)) (entered x .args .rings) (entered x .args .k)
-    (entered x .args .first .mover) (entered x .args .first .opponent) (entered x .args .first) (entered x .args .second)
-here x = setting-now (length (x .loop .tablebase)) (state x .1 .kept .same-length) (entered x .pre .1 .1 .1 .0)
+here : (x : tie.At-loop Inv-loop μ-loop) → Setting (length (x .loop .tablebase)) (entered x .args .bounds .rings) (entered x .args .bounds .k)
+    (entered x .args .tables .first .mover) (entered x .args .tables .first .opponent) (entered x .args .tables .first) (entered x .args .tables .second)
+here x = setting-now (length (x .loop .tablebase)) (state x .1 .kept .same-length) (entered x .pre .1 .setting)
 
 -- a level is done, over any tablebase at entry
 module _ (c : tie.After-level-pair Inv-loop μ-loop) (before : List ℕ)
-    (s : Setting (length before) (entered (c .before .before .before) .args .rings) (entered (c .before .before .before) .args .k)
-    (entered (c .before .before .before) .args .first .mover) (entered (c .before .before .before) .args .first .opponent)
-    (entered (c .before .before .before) .args .first) (entered (c .before .before .before) .args .second))
-    (valid : LowerValid (entered (c .before .before .before) .args .rings) (entered (c .before .before .before) .args .k)
-    (entered (c .before .before .before) .args .first .mover) (entered (c .before .before .before) .args .first .opponent) before)
-    (mirrored : LowerSymmetric (entered (c .before .before .before) .args .maps) (entered (c .before .before .before) .args .rings)
-    (entered (c .before .before .before) .args .k)
-    (entered (c .before .before .before) .args .first .mover) (entered (c .before .before .before) .args .first .opponent) before)
-    (st : State (entered (c .before .before .before) .args .rings) (entered (c .before .before .before) .args .k)
-    (entered (c .before .before .before) .args .first .mover) (entered (c .before .before .before) .args .first .opponent)
-    (entered (c .before .before .before) .args .first) (entered (c .before .before .before) .args .second) before s valid
-    (entered (c .before .before .before) .args .limit) (c .before .before .before .loop .level) (c .before .before .before .loop .tablebase)) where
-  levelled : Kept (entered (c .before .before .before) .args .rings) (entered (c .before .before .before) .args .k)
-      (BothTables (entered (c .before .before .before) .args .first .mover) (entered (c .before .before .before) .args .first .opponent)) before
+    (s : Setting (length before) (entered (c .before .before .before) .args .bounds .rings) (entered (c .before .before .before) .args .bounds .k)
+    (entered (c .before .before .before) .args .tables .first .mover) (entered (c .before .before .before) .args .tables .first .opponent)
+    (entered (c .before .before .before) .args .tables .first) (entered (c .before .before .before) .args .tables .second))
+    (valid : LowerValid (entered (c .before .before .before) .args .bounds .rings) (entered (c .before .before .before) .args .bounds .k)
+    (entered (c .before .before .before) .args .tables .first .mover) (entered (c .before .before .before) .args .tables .first .opponent) before)
+    (mirrored : LowerSymmetric (entered (c .before .before .before) .args .maps) (entered (c .before .before .before) .args .bounds .rings)
+    (entered (c .before .before .before) .args .bounds .k)
+    (entered (c .before .before .before) .args .tables .first .mover) (entered (c .before .before .before) .args .tables .first .opponent) before)
+    (st : State (entered (c .before .before .before) .args .bounds .rings) (entered (c .before .before .before) .args .bounds .k)
+    (entered (c .before .before .before) .args .tables .first .mover) (entered (c .before .before .before) .args .tables .first .opponent)
+    (entered (c .before .before .before) .args .tables .first) (entered (c .before .before .before) .args .tables .second) before s valid
+    (entered (c .before .before .before) .args .bounds .limit) (c .before .before .before .loop .level) (c .before .before .before .loop .tablebase)) where
+  levelled : Kept (entered (c .before .before .before) .args .bounds .rings) (entered (c .before .before .before) .args .bounds .k)
+      (BothTables (entered (c .before .before .before) .args .tables .first .mover) (entered (c .before .before .before) .args .tables .first .opponent)) before
       (c .level-pair .last .0)
-      × ExactBelow (entered (c .before .before .before) .args .rings) (entered (c .before .before .before) .args .k)
-      (entered (c .before .before .before) .args .first .mover) (entered (c .before .before .before) .args .first .opponent)
-      (entered (c .before .before .before) .args .first) (entered (c .before .before .before) .args .second) before s valid
+      × ExactBelow (entered (c .before .before .before) .args .bounds .rings) (entered (c .before .before .before) .args .bounds .k)
+      (entered (c .before .before .before) .args .tables .first .mover) (entered (c .before .before .before) .args .tables .first .opponent)
+      (entered (c .before .before .before) .args .tables .first) (entered (c .before .before .before) .args .tables .second) before s valid
       (suc (c .before .before .before .loop .level)) (c .level-pair .last .0)
   levelled =
       let x = c .before .before .before in
       let a = entered x .args in
-      let g = group-of (a .maps) (entered x .pre .1 .1 .1 .1 .3) in
-      after-classes (a .rings) (a .k) (a .first .mover) (a .first .opponent) (a .first) (a .second) before s valid (a .maps) g mirrored
-      (leastOfClass (a .rings) (a .maps)) (least-picks (λ b. number b) (a .rings) (s .pair .small) (a .maps) g) (x .loop .level)
-      (state x .0) (c .before .before .loop-test .taken) (a .limit) (x .loop .tablebase) st (c .level-pair .last .0) (c .level-pair .ensures)
+      let g = group-of (a .maps) (entered x .pre .1 .used) in
+      after-classes (a .bounds .rings) (a .bounds .k) (a .tables .first .mover) (a .tables .first .opponent) (a .tables .first) (a .tables .second) before s valid (a .maps) g mirrored
+      (leastOfClass (a .bounds .rings) (a .maps)) (least-picks (λ b. number b) (a .bounds .rings) (s .pair .small) (a .maps) g) (x .loop .level)
+      (state x .0) (c .before .before .loop-test .taken) (a .bounds .limit) (x .loop .tablebase) st (c .level-pair .last .0) (c .level-pair .ensures)
 
 -- the tables are where they were
-there : (c : tie.After-level-pair Inv-loop μ-loop) → Setting (length (c .level-pair .last .0)) (entered (c .before .before .before) .args .rings)
-    (entered (c .before .before .before) .args .k) (entered (c .before .before .before) .args .first .mover)
-    (entered (c .before .before .before) .args .first .opponent) (entered (c .before .before .before) .args .first)
-    (entered (c .before .before .before) .args .second)
+there : (c : tie.After-level-pair Inv-loop μ-loop) → Setting (length (c .level-pair .last .0)) (entered (c .before .before .before) .args .bounds .rings)
+    (entered (c .before .before .before) .args .bounds .k) (entered (c .before .before .before) .args .tables .first .mover)
+    (entered (c .before .before .before) .args .tables .first .opponent) (entered (c .before .before .before) .args .tables .first)
+    (entered (c .before .before .before) .args .tables .second)
 there c =
     let x = c .before .before .before in
     let s = entered x in
     setting-now (length (c .level-pair .last .0))
-    (levelled c (s .args .tablebase .now) (s .pre .1 .1 .1 .0) (s .pre .1 .1 .1 .1 .0) (s .pre .1 .1 .1 .1 .4) (state x .1) .0 .same-length)
-    (s .pre .1 .1 .1 .0)
+    (levelled c (s .args .tablebase .now) (s .pre .1 .setting) (s .pre .1 .valid) (s .pre .1 .symmetric) (state x .1) .0 .same-length)
+    (s .pre .1 .setting)
 
 fill-pair-requires : tie.Need-fill-pair-requires Inv-loop μ-loop
-fill-pair-requires c κs = in-room (c .before .before .pre .1 .1 .1 .0)
+fill-pair-requires c κs = in-room (c .before .before .pre .1 .setting)
 
 sweep-pair-requires : tie.Need-sweep-pair-requires Inv-loop μ-loop
 sweep-pair-requires c κs =
@@ -102,18 +102,18 @@ sweep-pair-requires c κs =
     let s = f .before .before .before in
     let a = s .args in
     let w = setting-now (length (f .fill-pair .last .0)) (ap length (f .fill-pair .ensures)
-    ∙ pair-kept (a .rings) (a .k) (a .first .mover) (a .first .opponent) (a .first) (a .second) (a .tablebase .now) (s .pre .1 .1 .1 .0) drawEntry
+    ∙ pair-kept (a .bounds .rings) (a .bounds .k) (a .tables .first .mover) (a .tables .first .opponent) (a .tables .first) (a .tables .second) (a .tablebase .now) (s .pre .1 .setting) drawEntry
     .same-length)
-    (s .pre .1 .1 .1 .0) in
-    (s .pre .0, (s .pre .1 .0, (w .pair .small, first-lies w, second-lies w)))
+    (s .pre .1 .setting) in
+    (s .pre .0, (first-lies w, second-lies w))
 
 loop-holds : tie.Need-loop-holds Inv-loop μ-loop
 loop-holds c =
     let a = c .before .before .before .before .before .before .before .before .before .args in
     λ before s valid mirrored e. (
       omega arith,
-      after-blocked (a .rings) (a .k) (a .first .mover) (a .first .opponent) (a .first) (a .second) before s valid (a .limit) _
-          (state-start (a .rings) (a .k) (a .first .mover) (a .first .opponent) (a .first) (a .second) before s valid (a .limit)) _ e,
+      after-blocked (a .bounds .rings) (a .bounds .k) (a .tables .first .mover) (a .tables .first .opponent) (a .tables .first) (a .tables .second) before s valid (a .bounds .limit) _
+          (state-start (a .bounds .rings) (a .bounds .k) (a .tables .first .mover) (a .tables .first .opponent) (a .tables .first) (a .tables .second) before s valid (a .bounds .limit)) _ e,
     )
 
 level-pair-requires : tie.Need-level-pair-requires Inv-loop μ-loop
@@ -122,23 +122,16 @@ level-pair-requires c κs =
     let s = entered x in
     let w = here x in (
       s .pre .0,
-      (
-        s .pre .1 .0,
-        (
-          s .pre .1 .1 .0,
-          (
-            first-fits w,
-            first-counted w,
-            second-fits w,
-            second-counted w,
-            state x .0,
-            c .before .loop-test .taken,
-            s .pre .1 .1 .1 .1
-                .2,
-            group-of (s .args .maps) (s .pre .1 .1 .1 .1 .3) .high,
-          ),
-        ),
-      ),
+      record {
+        images = s .pre .1 .images;
+        few = group-of (s .args .maps) (s .pre .1 .used) .high;
+        first-fits = first-fits w;
+        first-counted = first-counted w;
+        second-fits = second-fits w;
+        second-counted = second-counted w;
+        above = state x .0;
+        level-low = c .before .loop-test .taken;
+      },
     )
 
 beyond-requires : tie.Need-beyond-requires Inv-loop μ-loop
@@ -154,13 +147,13 @@ returns c =
     let x = l .before .before .before in
     let s = entered x in
     let a = s .args in
-    let w = levelled l (a .tablebase .now) (s .pre .1 .1 .1 .0) (s .pre .1 .1 .1 .1 .0) (s .pre .1 .1 .1 .1 .4) (state x .1) in
-    voided (a .rings) (a .k) (a .first .mover) (a .first .opponent) (a .first) (a .second) (a .tablebase .now) (l .level-pair .last .0)
-    (c .before .before .fill-pair2 .last .0) (s .pre .1 .1 .1 .0) (w .0) (a .limit) _
-    (beyond-limit (a .rings) (a .k) (a .first .mover) (a .first .opponent) (a .first) (a .second) (a .tablebase .now) (s .pre .1 .1 .1 .0)
-    (s .pre .1 .1 .1 .1 .0) (a .limit) (x .loop .level) (state x .0) (l .before .before .loop-test .taken) (x .loop .tablebase) (state x .1)
+    let w = levelled l (a .tablebase .now) (s .pre .1 .setting) (s .pre .1 .valid) (s .pre .1 .symmetric) (state x .1) in
+    voided (a .bounds .rings) (a .bounds .k) (a .tables .first .mover) (a .tables .first .opponent) (a .tables .first) (a .tables .second) (a .tablebase .now) (l .level-pair .last .0)
+    (c .before .before .fill-pair2 .last .0) (s .pre .1 .setting) (w .0) (a .bounds .limit) _
+    (beyond-limit (a .bounds .rings) (a .bounds .k) (a .tables .first .mover) (a .tables .first .opponent) (a .tables .first) (a .tables .second) (a .tablebase .now) (s .pre .1 .setting)
+    (s .pre .1 .valid) (a .bounds .limit) (x .loop .level) (state x .0) (l .before .before .loop-test .taken) (x .loop .tablebase) (state x .1)
     (l .level-pair .last .0) (w .1)
-    (subst (Beyond (a .first) (a .second) (a .limit) (x .loop .level) (l .level-pair .last .0)) (t .if1 .taken) (t .before .beyond .ensures)))
+    (subst (Beyond (a .tables .first) (a .tables .second) (a .bounds .limit) (x .loop .level) (l .level-pair .last .0)) (t .if1 .taken) (t .before .beyond .ensures)))
     (c .before .before .fill-pair2 .ensures)
 
 same-length : tie.Need-same-length Inv-loop μ-loop
@@ -176,30 +169,30 @@ add-level c =
     let l = c .before .before .before .before .before .before .before in
     let x = l .before .before .before in
     let a = entered x .args in
-    omega (arith, c .pair-least .ensures, least-void (a .first) (a .second) (x .loop .level) (l .level-pair .last .0))
+    omega (arith, c .pair-least .ensures, least-void (a .tables .first) (a .tables .second) (x .loop .level) (l .level-pair .last .0))
 
 -- one level more
 stepped : (c : tie.After-pair-least Inv-loop μ-loop) (before : List ℕ)
-    (s : Setting (length before) (entered (c .before .before .before .before .before .before .before .before .before .before) .args .rings)
-    (entered (c .before .before .before .before .before .before .before .before .before .before) .args .k)
-    (entered (c .before .before .before .before .before .before .before .before .before .before) .args .first .mover)
-    (entered (c .before .before .before .before .before .before .before .before .before .before) .args .first .opponent)
-    (entered (c .before .before .before .before .before .before .before .before .before .before) .args .first)
-    (entered (c .before .before .before .before .before .before .before .before .before .before) .args .second))
-    (valid : LowerValid (entered (c .before .before .before .before .before .before .before .before .before .before) .args .rings)
-    (entered (c .before .before .before .before .before .before .before .before .before .before) .args .k)
-    (entered (c .before .before .before .before .before .before .before .before .before .before) .args .first .mover)
-    (entered (c .before .before .before .before .before .before .before .before .before .before) .args .first .opponent) before)
+    (s : Setting (length before) (entered (c .before .before .before .before .before .before .before .before .before .before) .args .bounds .rings)
+    (entered (c .before .before .before .before .before .before .before .before .before .before) .args .bounds .k)
+    (entered (c .before .before .before .before .before .before .before .before .before .before) .args .tables .first .mover)
+    (entered (c .before .before .before .before .before .before .before .before .before .before) .args .tables .first .opponent)
+    (entered (c .before .before .before .before .before .before .before .before .before .before) .args .tables .first)
+    (entered (c .before .before .before .before .before .before .before .before .before .before) .args .tables .second))
+    (valid : LowerValid (entered (c .before .before .before .before .before .before .before .before .before .before) .args .bounds .rings)
+    (entered (c .before .before .before .before .before .before .before .before .before .before) .args .bounds .k)
+    (entered (c .before .before .before .before .before .before .before .before .before .before) .args .tables .first .mover)
+    (entered (c .before .before .before .before .before .before .before .before .before .before) .args .tables .first .opponent) before)
     → LowerSymmetric (entered (c .before .before .before .before .before .before .before .before .before .before) .args .maps)
-    (entered (c .before .before .before .before .before .before .before .before .before .before) .args .rings)
-    (entered (c .before .before .before .before .before .before .before .before .before .before) .args .k)
-    (entered (c .before .before .before .before .before .before .before .before .before .before) .args .first .mover)
-    (entered (c .before .before .before .before .before .before .before .before .before .before) .args .first .opponent) before
-    → State _ _ _ _ _ _ before s valid (entered (c .before .before .before .before .before .before .before .before .before .before) .args .limit)
+    (entered (c .before .before .before .before .before .before .before .before .before .before) .args .bounds .rings)
+    (entered (c .before .before .before .before .before .before .before .before .before .before) .args .bounds .k)
+    (entered (c .before .before .before .before .before .before .before .before .before .before) .args .tables .first .mover)
+    (entered (c .before .before .before .before .before .before .before .before .before .before) .args .tables .first .opponent) before
+    → State _ _ _ _ _ _ before s valid (entered (c .before .before .before .before .before .before .before .before .before .before) .args .bounds .limit)
     (c .before .before .before .before .before .before .before .before .before .before .loop .level)
     (c .before .before .before .before .before .before .before .before .before .before .loop .tablebase)
     → (c .before .before .before .before .before .before .before .before .before .before .loop .level < 1 + c .pair-least .result)
-    × State _ _ _ _ _ _ before s valid (entered (c .before .before .before .before .before .before .before .before .before .before) .args .limit)
+    × State _ _ _ _ _ _ before s valid (entered (c .before .before .before .before .before .before .before .before .before .before) .args .bounds .limit)
     (1 + c .pair-least .result) (c .before .before .before .before .before .before .before .level-pair .last .0)
 stepped c before s valid mirrored st =
     let e = c .before .before in
@@ -207,11 +200,11 @@ stepped c before s valid mirrored st =
     let x = l .before .before .before in
     let a = entered x .args in
     let w = levelled l before s valid mirrored st in
-    state-next (a .rings) (a .k) (a .first .mover) (a .first .opponent) (a .first) (a .second) before s valid (a .limit) (x .loop .level) (state x .0)
+    state-next (a .bounds .rings) (a .bounds .k) (a .tables .first .mover) (a .tables .first .opponent) (a .tables .first) (a .tables .second) before s valid (a .bounds .limit) (x .loop .level) (state x .0)
     (l .before .before .loop-test .taken) (l .level-pair .last .0) (w .0) (w .1)
-    (within-limit (a .rings) (a .k) (a .first .mover) (a .first .opponent) (a .first) (a .second) before s valid (a .limit) (x .loop .level) (state x .0)
+    (within-limit (a .bounds .rings) (a .bounds .k) (a .tables .first .mover) (a .tables .first .opponent) (a .tables .first) (a .tables .second) before s valid (a .bounds .limit) (x .loop .level) (state x .0)
     (l .before .before .loop-test .taken) (x .loop .tablebase) st (l .level-pair .last .0) (w .1)
-    (subst (Beyond (a .first) (a .second) (a .limit) (x .loop .level) (l .level-pair .last .0)) (e .if1 .left) (e .before .beyond .ensures)))
+    (subst (Beyond (a .tables .first) (a .tables .second) (a .bounds .limit) (x .loop .level) (l .level-pair .last .0)) (e .if1 .left) (e .before .beyond .ensures)))
     (1 + c .pair-least .result) (omega (arith, c .pair-least .ensures))
 
 loop-less : tie.Need-loop-less Inv-loop μ-loop
@@ -219,7 +212,7 @@ loop-less c =
     let l = c .before .before .before .before .before .before .before in
     let x = l .before .before .before in
     let s = entered x in
-    let n = stepped c (s .args .tablebase .now) (s .pre .1 .1 .1 .0) (s .pre .1 .1 .1 .1 .0) (s .pre .1 .1 .1 .1 .4) (state x .1) in
+    let n = stepped c (s .args .tablebase .now) (s .pre .1 .setting) (s .pre .1 .valid) (s .pre .1 .symmetric) (state x .1) in
     omega (arith, n .0, l .before .before .loop-test .taken)
 
 loop-again : tie.Need-loop-again Inv-loop μ-loop
@@ -235,15 +228,15 @@ returns-2 c =
     let x = c .before .before in
     let s = entered x in
     let a = s .args in
-    all-true (a .rings) (a .k) (a .first .mover) (a .first .opponent) (a .first) (a .second) (a .tablebase .now)
-    (s .pre .1 .1 .1 .0) (s .pre .1 .1 .1 .1 .0) (a .limit) (x .loop .level) (x .loop .tablebase) (state x .1) (state x .1 .over (c .if2 .taken))
+    all-true (a .bounds .rings) (a .bounds .k) (a .tables .first .mover) (a .tables .first .opponent) (a .tables .first) (a .tables .second) (a .tablebase .now)
+    (s .pre .1 .setting) (s .pre .1 .valid) (a .bounds .limit) (x .loop .level) (x .loop .tablebase) (state x .1) (state x .1 .over (c .if2 .taken))
 
 pair-decided-requires : tie.Need-pair-decided-requires Inv-loop μ-loop
 pair-decided-requires c κs =
     let x = c .before .before .before in
     let s = entered x in
     let w = here x in
-    (s .pre .0, (s .pre .1 .0, (s .pre .1 .1 .0, (first-fits w, second-fits w))))
+    (s .pre .0, (first-fits w, second-fits w))
 
 fill-pair-requires-3 : tie.Need-fill-pair-requires-3 Inv-loop μ-loop
 fill-pair-requires-3 c κs = in-room (here (c .before .before .before .before .before .before))
@@ -254,12 +247,12 @@ returns-3 c =
     let x = t .before .before .before .before .before in
     let s = entered x in
     let a = s .args in
-    voided (a .rings) (a .k) (a .first .mover) (a .first .opponent) (a .first) (a .second) (a .tablebase .now) (x .loop .tablebase)
-    (c .before .before .fill-pair3 .last .0) (s .pre .1 .1 .1 .0) (state x .1 .kept) (a .limit) _
-    (one-decided (a .rings) (a .k) (a .first .mover) (a .first .opponent) (a .first) (a .second) (a .tablebase .now)
-    (s .pre .1 .1 .1 .0) (s .pre .1 .1 .1 .1 .0) (a .limit) (x .loop .level) (x .loop .tablebase) (state x .1)
-    (omega (arith, t .before .before .before .before .loop-test .left, s .pre .1 .1 .1 .1 .1)) (omega (arith, t .before .before .before .if2 .left))
-    (subst (PairFound (a .rings) (a .first) (a .second) (x .loop .tablebase)) (t .if3 .taken) (t .before .pair-decided .ensures)))
+    voided (a .bounds .rings) (a .bounds .k) (a .tables .first .mover) (a .tables .first .opponent) (a .tables .first) (a .tables .second) (a .tablebase .now) (x .loop .tablebase)
+    (c .before .before .fill-pair3 .last .0) (s .pre .1 .setting) (state x .1 .kept) (a .bounds .limit) _
+    (one-decided (a .bounds .rings) (a .bounds .k) (a .tables .first .mover) (a .tables .first .opponent) (a .tables .first) (a .tables .second) (a .tablebase .now)
+    (s .pre .1 .setting) (s .pre .1 .valid) (a .bounds .limit) (x .loop .level) (x .loop .tablebase) (state x .1)
+    (omega (arith, t .before .before .before .before .loop-test .left, s .pre .1 .limit-low)) (omega (arith, t .before .before .before .if2 .left))
+    (subst (PairFound (a .bounds .rings) (a .tables .first) (a .tables .second) (x .loop .tablebase)) (t .if3 .taken) (t .before .pair-decided .ensures)))
     (c .before .before .fill-pair3 .ensures)
 
 same-length-3 : tie.Need-same-length-3 Inv-loop μ-loop
@@ -273,10 +266,10 @@ returns-4 c =
     let x = c .before .before .before .before .before in
     let s = entered x in
     let a = s .args in
-    nothing-decided (a .rings) (a .k) (a .first .mover) (a .first .opponent) (a .first) (a .second) (a .tablebase .now)
-    (s .pre .1 .1 .1 .0) (s .pre .1 .1 .1 .1 .0) (a .limit) (x .loop .level) (x .loop .tablebase) (state x .1)
-    (omega (arith, c .before .before .before .before .loop-test .left, s .pre .1 .1 .1 .1 .1)) (omega (arith, c .before .before .before .if2 .left))
-    (subst (PairFound (a .rings) (a .first) (a .second) (x .loop .tablebase)) (c .if3 .left) (c .before .pair-decided .ensures))
+    nothing-decided (a .bounds .rings) (a .bounds .k) (a .tables .first .mover) (a .tables .first .opponent) (a .tables .first) (a .tables .second) (a .tablebase .now)
+    (s .pre .1 .setting) (s .pre .1 .valid) (a .bounds .limit) (x .loop .level) (x .loop .tablebase) (state x .1)
+    (omega (arith, c .before .before .before .before .loop-test .left, s .pre .1 .limit-low)) (omega (arith, c .before .before .before .if2 .left))
+    (subst (PairFound (a .bounds .rings) (a .tables .first) (a .tables .second) (x .loop .tablebase)) (c .if3 .left) (c .before .pair-decided .ensures))
 
 pub solve-tables-spec : {M : Type 1} → statement M
 solve-tables-spec =

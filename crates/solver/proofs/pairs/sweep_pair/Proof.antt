@@ -15,11 +15,11 @@ sweep-blocked-requires c κs = search needs
 
 sweep-blocked-requires-2 : tie.Need-sweep-blocked-requires-2
 sweep-blocked-requires-2 c κs =
-    let s = c .before .before .before .before .before .before .before .before in
+    let s = c .before .before .before .before .before .before .before .before .before in
     let a = s .args in
     let e = ap length (c .before .before .before .before .before .sweep-blocked .ensures)
-    ∙ blocked-lengths (a .rings) (a .first) (a .tablebase .now) (size (8 * a .rings) (a .first .mover) (a .first .opponent)) in
-    (s .pre .0, (s .pre .1 .0, (s .pre .1 .1 .0, subst (λ (n : ℕ). Lies (8 * a .rings) (a .second) n) (sym e) (s .pre .1 .1 .2))))
+    ∙ blocked-lengths (a .rings) (a .tables .first) (a .tablebase .now) (size (8 * a .rings) (a .tables .first .mover) (a .tables .first .opponent)) in
+    (s .pre .0, subst (λ (n : ℕ). Lies (8 * a .rings) (a .tables .second) n) (sym e) (s .pre .1 .1))
 
 same-length : tie.Need-same-length
 same-length c = search needs
@@ -27,9 +27,9 @@ same-length c = search needs
 returns : tie.Need-returns
 returns c =
     let k = c .before .before .before .before .before .before .before .before in
-    let a = k .before .before .before .args in
+    let a = k .before .before .before .before .args in
     c .before .before .sweep-blocked2 .ensures
-    ∙ blocked-twice (a .rings) (a .first) (a .second) (a .tablebase .now) (k .sweep-blocked .last .0) (k .sweep-blocked .ensures)
+    ∙ blocked-twice (a .rings) (a .tables .first) (a .tables .second) (a .tablebase .now) (k .sweep-blocked .last .0) (k .sweep-blocked .ensures)
     (c .before .before .before .before .if1 .taken)
 
 same-length-2 : tie.Need-same-length-2
@@ -38,8 +38,8 @@ same-length-2 c = search needs
 returns-2 : tie.Need-returns-2
 returns-2 c =
     let k = c .before .before .before .before in
-    let a = k .before .before .before .args in
-    blocked-once (a .rings) (a .first) (a .second) (a .tablebase .now) (k .sweep-blocked .last .0) (k .sweep-blocked .ensures) (c .if1 .left)
+    let a = k .before .before .before .before .args in
+    blocked-once (a .rings) (a .tables .first) (a .tables .second) (a .tablebase .now) (k .sweep-blocked .last .0) (k .sweep-blocked .ensures) (c .if1 .left)
 
 pub sweep-pair-spec : {M : Type 1} → statement M
 sweep-pair-spec =

@@ -15,11 +15,11 @@ use Rattle.solver.proofs.whole.solve_all.Statement.{statement}
 use Rattle.solver.proofs.whole.solve_all.Tie as tie
 
 abbrev Inv-loop : tie.InvT-loop
-Inv-loop tablebase₀ binomials near mills images rings k limit maps m₀ tablebase m =
-    (3 ≤ m) × (m ≤ k + 1) × (length tablebase ≡ length tablebase₀) × TrueOn rings k limit (Before m 3) tablebase
+Inv-loop tablebase₀ binomials masks images bounds maps k m₀ tablebase m =
+    (3 ≤ m) × (m ≤ k + 1) × (length tablebase ≡ length tablebase₀) × TrueOn (bounds .rings) (bounds .k) (bounds .limit) (Before m 3) tablebase
 
 abbrev μ-loop : tie.MeasureT-loop
-μ-loop tablebase₀ binomials near mills images rings k limit maps m₀ tablebase m = k + 1 - m
+μ-loop tablebase₀ binomials masks images bounds maps k m₀ tablebase m = k + 1 - m
 
 -- the entry of the function, seen from the loop
 abbrev entered : tie.At-loop Inv-loop μ-loop → tie.Start Inv-loop μ-loop
@@ -28,34 +28,29 @@ entered x = x .before .before .before
 loop-holds : tie.Need-loop-holds Inv-loop μ-loop
 loop-holds c =
     let s = c .before .before in
-    (omega arith, omega (arith, s .pre .1 .1 .1 .1), refl, done-first (s .args .rings) (s .args .k) (s .args .limit) (s .args .tablebase .now))
+    (omega arith, omega (arith, s .pre .1 .some), refl, done-first (s .args .bounds .rings) (s .args .bounds .k) (s .args .bounds .limit) (s .args .tablebase .now))
 
 solve-row-requires : tie.Need-solve-row-requires Inv-loop μ-loop
 solve-row-requires c κs =
     let x = c .before .before in
     let s = entered x in
-    let h = s .pre .1 .1 .1 in (
+    let h = s .pre .1 in (
       s .pre .0,
-      (
-        s .pre .1 .0,
-        (
-          s .pre .1 .1 .0,
-          (
-            (
-              record {
-                small = h .0;
-                mover-low = x .loop .inv .0;
-                mover-high = c .before .loop-test .taken;
-                opponent-low = x .loop .inv .0;
-                opponent-high = c .before .loop-test .taken;
-              },
-              h .2,
-              x .loop .inv .2 ∙ h .3,
-            ),
-            (x .loop .inv .3, h .4, h .5, x .before .all-maps .ensures),
-          ),
-        ),
-      ),
+      record {
+        pair = record {
+          small = s .pre .0 .masks .small;
+          mover-low = x .loop .inv .0;
+          mover-high = c .before .loop-test .taken;
+          opponent-low = x .loop .inv .0;
+          opponent-high = c .before .loop-test .taken;
+        };
+        few = h .few;
+        room = x .loop .inv .2 ∙ h .room;
+        done = x .loop .inv .3;
+        limit-low = h .limit-low;
+        images = h .images;
+        used = x .before .all-maps .ensures;
+      },
     )
 
 all-maps-requires : tie.Need-all-maps-requires Inv-loop μ-loop
@@ -86,8 +81,8 @@ returns c =
     let x = c .before .before .before .before .before .before .before .before .before .before in
     let s = entered x in
     let after = c .before .before .fill-table .last .0 in
-    deep-void (s .args .rings) (s .args .k) (s .args .limit) (s .args .tablebase .now) after (s .pre .1 .1 .1 .3) (same-length c)
-    (subst (PairsFilled (s .args .rings) (s .args .k) (s .args .limit) (x .loop .m + 1) 3
+    deep-void (s .args .bounds .rings) (s .args .bounds .k) (s .args .bounds .limit) (s .args .tablebase .now) after (s .pre .1 .room) (same-length c)
+    (subst (PairsFilled (s .args .bounds .rings) (s .args .bounds .k) (s .args .bounds .limit) (x .loop .m + 1) 3
     (c .before .before .before .before .before .before .before .solve-row .last .0)) (c .before .before .before .before .if1 .taken)
     (c .before .before .before .before .before .before .before .solve-row .ensures .1))
     (λ j l. voided c .1 j l)
@@ -96,7 +91,7 @@ add-m : tie.Need-add-m Inv-loop μ-loop
 add-m c = omega (
   arith,
   c .before .before .before .before .before .loop-test .taken,
-  entered (c .before .before .before .before .before .before) .pre .1 .1 .1 .2,
+  entered (c .before .before .before .before .before .before) .pre .1 .few,
 )
 
 loop-less : tie.Need-loop-less Inv-loop μ-loop
@@ -110,7 +105,7 @@ loop-again c =
       omega (arith, x .loop .inv .0),
       omega (arith, c .before .before .before .before .before .loop-test .taken),
       e .0 ∙ x .loop .inv .2,
-      subst (PairsFilled (s .args .rings) (s .args .k) (s .args .limit) (x .loop .m + 1) 3 (c .before .before .before .solve-row .last .0))
+      subst (PairsFilled (s .args .bounds .rings) (s .args .bounds .k) (s .args .bounds .limit) (x .loop .m + 1) 3 (c .before .before .before .solve-row .last .0))
           (c .if1 .left) (e .1),
     )
 
@@ -121,10 +116,10 @@ returns-2 : tie.Need-returns-2 Inv-loop μ-loop
 returns-2 c =
     let x = c .before in
     let s = entered x in
-    let e : x .loop .m ≡ s .args .k + 1 = omega (arith, c .loop-test .left, x .loop .inv .1) in
-    true-whole (s .args .rings) (s .args .k) (s .args .limit) (s .args .tablebase .now) (x .loop .tablebase) (s .pre .1 .1 .1 .3) (x .loop .inv .2)
-    (done-all (s .args .rings) (s .args .k) (s .args .limit) (x .loop .tablebase)
-    (subst (λ (m : ℕ). TrueOn (s .args .rings) (s .args .k) (s .args .limit) (Before m 3) (x .loop .tablebase)) e (x .loop .inv .3)))
+    let e : x .loop .m ≡ s .args .bounds .k + 1 = omega (arith, c .loop-test .left, x .loop .inv .1) in
+    true-whole (s .args .bounds .rings) (s .args .bounds .k) (s .args .bounds .limit) (s .args .tablebase .now) (x .loop .tablebase) (s .pre .1 .room) (x .loop .inv .2)
+    (done-all (s .args .bounds .rings) (s .args .bounds .k) (s .args .bounds .limit) (x .loop .tablebase)
+    (subst (λ (m : ℕ). TrueOn (s .args .bounds .rings) (s .args .bounds .k) (s .args .bounds .limit) (Before m 3) (x .loop .tablebase)) e (x .loop .inv .3)))
 
 pub solve-all-spec : {M : Type 1} → statement M
 solve-all-spec =
