@@ -7,8 +7,8 @@ use Rattle.bestmove.specs.Best.{bestMove}
 use Rattle.refusals.specs.Refusals.{refusal}
 use Rattle.refusals.specs.Conditions.{bestMovePicks}
 use Rattle.refusals.specs.Answers.{Answer, accepted, refused, answer}
-use Rattle.morris.specs.declared.Chosen.{Chosen}
-use Rattle.morris.specs.declared.Chosen.the-variants.{Move, Refused}
+use Rattle.morris.specs.declared.answers.Chosen.{Chosen}
+use Rattle.morris.specs.declared.answers.Chosen.the-variants.{Move, Refused}
 
 -- document 01's number and values of each case
 abbrev pub chosen : Chosen → Answer

@@ -10,8 +10,8 @@ use Rattle.outcomes.specs.Filled.{AllTables, BothTables, Fill}
 use Rattle.refusals.specs.Refusals.{Pick, pick, tooDeep, refusal}
 use Rattle.refusals.specs.Conditions.{fillPicks, pairPicks}
 use Rattle.refusals.specs.Answers.{Answer, accepted, refused, answer}
-use Rattle.morris.specs.declared.Solved.{Solved}
-use Rattle.morris.specs.declared.Solved.the-variants.{Filled, Refused}
+use Rattle.morris.specs.declared.answers.Solved.{Solved}
+use Rattle.morris.specs.declared.answers.Solved.the-variants.{Filled, Refused}
 
 -- document 01's number of each case; there is no value beside it
 abbrev pub solved : Solved → Answer

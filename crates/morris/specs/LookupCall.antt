@@ -5,8 +5,8 @@ use Rattle.outcomes.specs.Places.{entryAt}
 use Rattle.refusals.specs.Refusals.{refusal}
 use Rattle.refusals.specs.Conditions.{lookupPicks}
 use Rattle.refusals.specs.Answers.{Answer, accepted, refused, answer}
-use Rattle.morris.specs.declared.Looked.{Looked}
-use Rattle.morris.specs.declared.Looked.the-variants.{Entry, Refused}
+use Rattle.morris.specs.declared.answers.Looked.{Looked}
+use Rattle.morris.specs.declared.answers.Looked.the-variants.{Entry, Refused}
 
 -- document 01's number and value of each case
 abbrev pub looked : Looked → Answer

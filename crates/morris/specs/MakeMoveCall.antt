@@ -6,8 +6,8 @@ use Rattle.rules.specs.Ply.{afterPly}
 use Rattle.refusals.specs.Refusals.{refusal}
 use Rattle.refusals.specs.Conditions.{movePicks}
 use Rattle.refusals.specs.Answers.{Answer, accepted, refused, answer, target}
-use Rattle.morris.specs.declared.Made.{Made}
-use Rattle.morris.specs.declared.Made.the-variants.{Written, Refused}
+use Rattle.morris.specs.declared.answers.Made.{Made}
+use Rattle.morris.specs.declared.answers.Made.the-variants.{Written, Refused}
 
 -- document 01's number of each case; there is no value beside it
 abbrev pub made : Made → Answer

@@ -7,8 +7,8 @@ use Rattle.rules.specs.Ply.{listedMoves}
 use Rattle.refusals.specs.Refusals.{refusal}
 use Rattle.refusals.specs.Conditions.{shortPicks}
 use Rattle.refusals.specs.Answers.{Answer, accepted, refused, answer, target}
-use Rattle.morris.specs.declared.Listed.{Listed}
-use Rattle.morris.specs.declared.Listed.the-variants.{Count, Refused}
+use Rattle.morris.specs.declared.answers.Listed.{Listed}
+use Rattle.morris.specs.declared.answers.Listed.the-variants.{Count, Refused}
 
 -- document 01's number and value of each case
 abbrev pub listed : Listed → Answer

@@ -5,8 +5,8 @@ use Rattle.ranking.specs.Rank.{rank}
 use Rattle.refusals.specs.Refusals.{refusal}
 use Rattle.refusals.specs.Conditions.{boardPicks}
 use Rattle.refusals.specs.Answers.{Answer, accepted, refused, answer}
-use Rattle.morris.specs.declared.Ranked.{Ranked}
-use Rattle.morris.specs.declared.Ranked.the-variants.{Rank, Refused}
+use Rattle.morris.specs.declared.answers.Ranked.{Ranked}
+use Rattle.morris.specs.declared.answers.Ranked.the-variants.{Rank, Refused}
 
 -- document 01's number and value of each case
 abbrev pub ranked : Ranked → Answer

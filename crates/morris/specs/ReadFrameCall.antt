@@ -6,8 +6,8 @@ use Rattle.frames.specs.Frame.{ringsIn, boardIn}
 use Rattle.refusals.specs.Refusals.{refusal}
 use Rattle.refusals.specs.Conditions.{framePicks, readPicks}
 use Rattle.refusals.specs.Answers.{Answer, accepted, refused, answer}
-use Rattle.morris.specs.declared.Frame.{Frame}
-use Rattle.morris.specs.declared.Frame.the-variants.{Position, Refused}
+use Rattle.morris.specs.declared.answers.Frame.{Frame}
+use Rattle.morris.specs.declared.answers.Frame.the-variants.{Position, Refused}
 
 -- document 01's number and values of each case
 abbrev pub frameRead : Frame → Answer

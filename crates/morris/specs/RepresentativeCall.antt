@@ -6,8 +6,8 @@ use Rattle.symmetry.specs.Representative.{representative}
 use Rattle.refusals.specs.Refusals.{refusal}
 use Rattle.refusals.specs.Conditions.{boardPicks}
 use Rattle.refusals.specs.Answers.{Answer, accepted, refused, answer}
-use Rattle.morris.specs.declared.Represented.{Represented}
-use Rattle.morris.specs.declared.Represented.the-variants.{Rank, Refused}
+use Rattle.morris.specs.declared.answers.Represented.{Represented}
+use Rattle.morris.specs.declared.answers.Represented.the-variants.{Rank, Refused}
 
 -- document 01's number and value of each case
 abbrev pub represented : Represented → Answer

@@ -6,8 +6,8 @@ use Rattle.ranking.specs.Unrank.{unrank}
 use Rattle.refusals.specs.Refusals.{refusal}
 use Rattle.refusals.specs.Conditions.{rankPicks}
 use Rattle.refusals.specs.Answers.{Answer, accepted, refused, answer, target}
-use Rattle.morris.specs.declared.Unranked.{Unranked}
-use Rattle.morris.specs.declared.Unranked.the-variants.{Written, Refused}
+use Rattle.morris.specs.declared.answers.Unranked.{Unranked}
+use Rattle.morris.specs.declared.answers.Unranked.the-variants.{Written, Refused}
 
 -- document 01's number of each case; there is no value beside it
 abbrev pub unranked : Unranked → Answer

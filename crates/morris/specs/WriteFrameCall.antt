@@ -7,8 +7,8 @@ use Rattle.frames.specs.Frame.{frameLength, frameOf}
 use Rattle.refusals.specs.Refusals.{refusal}
 use Rattle.refusals.specs.Conditions.{shortPicks}
 use Rattle.refusals.specs.Answers.{Answer, accepted, refused, answer, target}
-use Rattle.morris.specs.declared.Framed.{Framed}
-use Rattle.morris.specs.declared.Framed.the-variants.{Length, Refused}
+use Rattle.morris.specs.declared.answers.Framed.{Framed}
+use Rattle.morris.specs.declared.answers.Framed.the-variants.{Length, Refused}
 
 -- document 01's number and value of each case
 abbrev pub frameWritten : Framed → Answer

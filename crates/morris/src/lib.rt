@@ -2,8 +2,19 @@
 //
 // Every call answers on every input: its result, or the number of the first refusal of document 01's table that it meets, and then each lent
 // buffer is as it was. `docs/PROMISES.md` says which sentence of the papers each contract states.
+mod answers;
 mod reader;
 
+pub use answers::Chosen;
+pub use answers::Frame;
+pub use answers::Framed;
+pub use answers::Listed;
+pub use answers::Looked;
+pub use answers::Made;
+pub use answers::Ranked;
+pub use answers::Represented;
+pub use answers::Solved;
+pub use answers::Unranked;
 pub use reader::number_of;
 ghost use mathlib.Core.Path.{_≡_};
 ghost use Rattle.morris.specs.RankCall.{ranked, rankCall};
@@ -17,12 +28,6 @@ ghost use Rattle.morris.specs.Fills.{solved, FillCall, FillPairCall};
 ghost use Rattle.morris.specs.ReadFrameCall.{frameRead, readFrameCall};
 ghost use Rattle.morris.specs.WriteFrameCall.{frameWritten, writeFrameCall, writeFrameTarget};
 
-// The rank of a board, or the number of a refusal.
-pub enum Ranked {
-    Rank(u64),
-    Refused(u8),
-}
-
 // The rank of a board of 8 × rings bytes, 0 vacant, 1 the side to move, 2 the other side. Refusals: 1, 2, 3, 4.
 pub fn rank(rings: u8, board: &[u8]) -> Ranked
     ensures { λ r. ⌜ ranked r ≡ rankCall rings (now (board .entry)) ⌝ }
@@ -34,12 +39,6 @@ pub fn rank(rings: u8, board: &[u8]) -> Ranked
     let binomials = sizes::binomial_table();
     let position = board::position_of(board);
     Ranked::Rank(ranking::rank(&binomials, board.len(), position) as u64)
-}
-
-// The target was written, or the number of a refusal.
-pub enum Unranked {
-    Written,
-    Refused(u8),
 }
 
 // Writes the board of a rank among those of the given counts over the target, of 8 × rings bytes. Refusals: 1, 4, 6, 5.
@@ -67,12 +66,6 @@ pub fn unrank(rings: u8, mover: u8, opponent: u8, rank: u64, target: &mut [u8]) 
     Unranked::Written
 }
 
-// How many moves were listed, or the number of a refusal.
-pub enum Listed {
-    Count(usize),
-    Refused(u8),
-}
-
 // Lists a board's moves by rising number at the start of the list; 324 places are always enough. Refusals: 1, 2, 3, 4, 7.
 pub fn moves(rings: u8, board: &[u8], list: &mut [u16]) -> Listed
     ensures answer { λ r. ⌜ listed r ≡ movesCall rings (now (board .entry)) (now (list .entry)) ⌝ }
@@ -91,12 +84,6 @@ pub fn moves(rings: u8, board: &[u8], list: &mut [u16]) -> Listed
     }
     plies::list_moves(rings as usize, &near, &mills, position, list);
     Listed::Count(count)
-}
-
-// The target was written, or the number of a refusal.
-pub enum Made {
-    Written,
-    Refused(u8),
 }
 
 // Writes the board after a listed move over the target, of 8 × rings bytes: the sides have changed names. Refusals: 1, 2, 3, 4, 6, 8.
@@ -119,12 +106,6 @@ pub fn make_move(rings: u8, board: &[u8], number: u16, target: &mut [u8]) -> Mad
     Made::Refused(refusals::MOVE)
 }
 
-// The rank of a representative, or the number of a refusal.
-pub enum Represented {
-    Rank(u64),
-    Refused(u8),
-}
-
 // The rank of the representative of a board's class. Refusals: 1, 2, 3, 4.
 pub fn representative(rings: u8, board: &[u8]) -> Represented
     ensures { λ r. ⌜ represented r ≡ representativeCall rings (now (board .entry)) ⌝ }
@@ -135,12 +116,6 @@ pub fn representative(rings: u8, board: &[u8]) -> Represented
     }
     let binomials = sizes::binomial_table();
     Represented::Rank(symmetry::representative_rank(&binomials, rings as usize, board) as u64)
-}
-
-// The entry of a board, or the number of a refusal.
-pub enum Looked {
-    Entry(u16),
-    Refused(u8),
 }
 
 // The entry of a board in a tablebase of largest count k: 65,535 draw, else plies to the end, even lost, odd won. Refusals: 1, 2, 3, 4, 11, 6, 12.
@@ -161,12 +136,6 @@ pub fn lookup(rings: u8, board: &[u8], k: u8, tablebase: &[u16]) -> Looked
         return Looked::Refused(refusals::VOID);
     }
     Looked::Entry(entry)
-}
-
-// A move with the entry of the successor that it leads to, or the number of a refusal.
-pub enum Chosen {
-    Move { number: u16, entry: u16 },
-    Refused(u8),
 }
 
 // The best move of a board by the entries of its successors: the first listed among quickest win, else a draw, else longest loss.
@@ -212,12 +181,6 @@ pub fn best_move(rings: u8, board: &[u8], k: u8, tablebase: &[u16]) -> Chosen
         number: best.number,
         entry: best.entry,
     }
-}
-
-// The tables were filled, or the number of a refusal.
-pub enum Solved {
-    Filled,
-    Refused(u8),
 }
 
 // Fills the tablebase of largest count k: at each place the plies to the end, or draw. Refusals: 1, 11, 6, 10, 13; after 13 every entry is void.
@@ -297,16 +260,6 @@ pub fn fill_pair(
     Solved::Filled
 }
 
-// A frame taken apart: a position as two point sets, or the number of a refusal.
-pub enum Frame {
-    Position {
-        rings: u8,
-        mover: u32,
-        opponent: u32,
-    },
-    Refused(u8),
-}
-
 // Reads a frame: the rings, the points of the side to move, those of the other side. Refusals: 14, 1, 2, 3, 4.
 pub fn read_frame(frame: &[u8]) -> Frame
     ensures { λ r. ⌜ frameRead r ≡ readFrameCall (now (frame .entry)) ⌝ }
@@ -328,12 +281,6 @@ pub fn read_frame(frame: &[u8]) -> Frame
         mover,
         opponent,
     }
-}
-
-// How many characters were written, or the number of a refusal.
-pub enum Framed {
-    Length(usize),
-    Refused(u8),
 }
 
 // Writes rings and a board as a frame over the start of the target: 6, 10 or 14 characters. Refusals: 1, 2, 3, 4, 7.

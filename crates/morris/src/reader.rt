@@ -2,7 +2,7 @@
 ghost use mathlib.Core.Path.{_≡_};
 ghost use Rattle.refusals.specs.Answers.{number};
 ghost use Rattle.morris.specs.ReadFrameCall.{frameRead, takenApart};
-use super::Frame;
+use super::answers::Frame;
 
 // The position of a frame, or its refusal: 14, 1, 2, 3.
 pub fn take_apart(frame: &[u8]) -> Frame

@@ -10,7 +10,7 @@ use Rattle.refusals.specs.Refusals.{refusal}
 use Rattle.refusals.specs.Conditions.{countsWrong, framePicks, readPicks}
 use Rattle.refusals.specs.Answers.{accepted, refused, number}
 use Rattle.morris.specs.ReadFrameCall.{frameRead, framePosition, readFrameCall, takenApart}
-use Rattle.morris.specs.declared.Frame.{Frame}
+use Rattle.morris.specs.declared.answers.Frame.{Frame}
 use Rattle.refusals.proofs.FrameConditions.{accepted-frame, frame-refused, stones-are, stones-decide}
 use Rattle.refusals.proofs.Answering.{answer-refused, answer-accepted, refused-number, accepted-values}
 use Rattle.morris.proofs.read_frame.Statement.{statement}

@@ -7,7 +7,7 @@ use lib.Seq.{length-take-le}
 use borrow.Author.Needs.{needs}
 use Rattle.board.proofs.Sides.{length-board}
 use Rattle.refusals.specs.Answers.{number}
-use Rattle.morris.specs.declared.Frame.{Frame}
+use Rattle.morris.specs.declared.answers.Frame.{Frame}
 use Rattle.morris.specs.ReadFrameCall.{frameRead}
 use Rattle.text.specs.Text.{refusedLine}
 use Rattle.lines.specs.Answers.{boardLine, answerOf}

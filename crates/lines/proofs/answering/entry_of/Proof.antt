@@ -1,7 +1,7 @@
 -- `lines::answering::entry_of` meets its contract: `-` on more than one ring, else what the call answers. Assumes nothing.
 use mathlib.Core.Path.{sym, ap, _∙_}
 use borrow.Author.Needs.{needs}
-use Rattle.morris.specs.declared.Looked.{Looked}
+use Rattle.morris.specs.declared.answers.Looked.{Looked}
 use Rattle.morris.specs.LookupCall.{looked}
 use Rattle.lines.specs.Answers.{fieldOf, entryField}
 use Rattle.lines.proofs.Fields.{shown-here, absent-elsewhere}

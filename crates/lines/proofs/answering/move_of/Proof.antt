@@ -1,7 +1,7 @@
 -- `lines::answering::move_of` meets its contract: `-` on more than one ring, else what the call answers. Assumes nothing.
 use mathlib.Core.Path.{sym, ap, _∙_}
 use borrow.Author.Needs.{needs}
-use Rattle.morris.specs.declared.Chosen.{Chosen}
+use Rattle.morris.specs.declared.answers.Chosen.{Chosen}
 use Rattle.morris.specs.BestMoveCall.{chosen}
 use Rattle.lines.specs.Answers.{fieldOf, moveField}
 use Rattle.lines.proofs.Fields.{shown-here, absent-elsewhere}

@@ -2,7 +2,7 @@
 use mathlib.Core.Path.{sym, ap, _∙_}
 use borrow.Author.Needs.{needs}
 use Rattle.refusals.specs.Answers.{Answer, value}
-use Rattle.morris.specs.declared.Ranked.{Ranked}
+use Rattle.morris.specs.declared.answers.Ranked.{Ranked}
 use Rattle.morris.specs.RankCall.{ranked}
 use Rattle.lines.proofs.answering.rank_of.Statement.{statement}
 use Rattle.lines.proofs.answering.rank_of.Tie as tie
