@@ -20,6 +20,20 @@ struct Ply {
     o: u8,
 }
 
+// The move of a ply that is taken back.
+struct Move {
+    ply: Ply,
+    to: usize,
+    from: usize,
+}
+
+// A position found: the rings, its depth and its place.
+struct Found {
+    rings: u8,
+    depth: u16,
+    place: usize,
+}
+
 // One ply less at a place; how many are left.
 fn one_less(counts: &mut [u16], place: usize) -> u16 {
     if place < counts.len() {
@@ -72,14 +86,14 @@ fn reach(
 fn with_taken(
     ways: &[usize; 2500],
     filled: &[usize; 101],
-    ply: Ply,
+    last: Move,
     board: &[u8; 24],
-    to: usize,
     taken: usize,
     entries: &mut [u16],
     counts: &mut [u16],
 ) {
-    if (at(board, taken) != 0) | (taken == to) {
+    let ply = last.ply;
+    if (at(board, taken) != 0) | (taken == last.to) {
         return;
     }
     let before = with_stone(board, taken, 2);
@@ -89,44 +103,30 @@ fn with_taken(
     }
 }
 
-// With each stone back that the mill may have taken.
-fn with_each_taken(
-    ways: &[usize; 2500],
-    filled: &[usize; 101],
-    ply: Ply,
-    board: &[u8; 24],
-    to: usize,
-    entries: &mut [u16],
-    counts: &mut [u16],
-) {
-    let points = 8 * ply.rings as usize;
-    let mut taken = 0;
-    while taken < points {
-        with_taken(ways, filled, ply, board, to, taken, entries, counts);
-        taken += 1;
-    }
-}
-
-// With the move to a point taken back to another. A move that closed a mill took a stone, and any other none.
+// With a move taken back. One that closed a mill took a stone, any that it may have taken, and another move took none.
 fn back_to(
     ways: &[usize; 2500],
     filled: &[usize; 101],
-    ply: Ply,
+    last: Move,
     board: &[u8; 24],
-    to: usize,
-    from: usize,
     entries: &mut [u16],
     counts: &mut [u16],
 ) {
-    if !goes(board, ply.m, to, from) {
+    let ply = last.ply;
+    if !goes(board, ply.m, last.to, last.from) {
         return;
     }
-    let before = moved(board, to, from);
-    if in_mill(board, ply.rings, to) {
-        with_each_taken(ways, filled, ply, &before, to, entries, counts);
+    let before = moved(board, last.to, last.from);
+    if !in_mill(board, ply.rings, last.to) {
+        reach(ways, filled, ply, ply.o, &before, entries, counts);
         return;
     }
-    reach(ways, filled, ply, ply.o, &before, entries, counts);
+    let points = 8 * ply.rings as usize;
+    let mut taken = 0;
+    while taken < points {
+        with_taken(ways, filled, last, &before, taken, entries, counts);
+        taken += 1;
+    }
 }
 
 // With every move to a point taken back, if the side that moved has a stone there.
@@ -145,7 +145,7 @@ fn back_from(
     let points = 8 * ply.rings as usize;
     let mut from = 0;
     while from < points {
-        back_to(ways, filled, ply, board, to, from, entries, counts);
+        back_to(ways, filled, Move { ply, to, from }, board, entries, counts);
         from += 1;
     }
 }
@@ -194,26 +194,25 @@ fn visit(
     ways: &[usize; 2500],
     starts: &[usize; 101],
     filled: &[usize; 101],
-    rings: u8,
-    depth: u16,
-    place: usize,
+    found: Found,
     entries: &mut [u16],
     counts: &mut [u16],
 ) {
+    let place = found.place;
     if entries.len() <= place {
         return;
     }
-    if entries[place] != depth {
+    if entries[place] != found.depth {
         return;
     }
-    let position = position_at(ways, starts, rings, place);
+    let position = position_at(ways, starts, found.rings, place);
     if !follows(filled, position.m, position.o) {
         return;
     }
     let board = position.board;
     let ply = Ply {
-        rings,
-        depth,
+        rings: found.rings,
+        depth: found.depth,
         m: position.o,
         o: position.m,
     };
@@ -232,7 +231,12 @@ pub fn wave(
 ) {
     let mut place = 0;
     while place < entries.len() {
-        visit(ways, starts, filled, rings, depth, place, entries, counts);
+        let found = Found {
+            rings,
+            depth,
+            place,
+        };
+        visit(ways, starts, filled, found, entries, counts);
         place += 1;
     }
 }
