@@ -1,5 +1,5 @@
 -- The fields of a board's line, by what the calls answer, and a line that was written. Assumes nothing.
-use mathlib.Core.Path.{_≡_, refl, sym, subst, _∙_}
+use mathlib.Core.Path.{_≡_, refl, sym, ap, subst, _∙_}
 use mathlib.Core.Bool.{Bool, true, false, not, false≢true}
 use mathlib.Core.List.{List}
 use Prim.Native.Nat.{ℕ, _+_, _≤_}
@@ -10,12 +10,12 @@ use Rattle.sets.specs.Sets.{members}
 use Rattle.board.specs.declared.position.Position.{Position}
 use Rattle.board.specs.Board.{count, positionOf}
 use Rattle.board.proofs.Sides.{mover-stones, opponent-stones}
-use Rattle.refusals.specs.Answers.{value}
+use Rattle.refusals.specs.Answers.{Answer, value}
 use Rattle.morris.specs.RankCall.{rankCall}
 use Rattle.text.specs.declared.Field.{Field}
 use Rattle.text.specs.declared.Field.the-variants.{Absent}
 use Rattle.text.specs.Text.{positionLine, mostBytes}
-use Rattle.lines.specs.Answers.{onOneRing, entryField, moveField, boardLine}
+use Rattle.lines.specs.Answers.{fieldOf, onOneRing, entryField, moveField, boardLine}
 
 -- what is shown on one ring, and on more
 module _ (rings : ℕ) (field : Field) where
@@ -32,6 +32,12 @@ module _ (rings : ℕ) (field : Field) where
       go : (t : Bool) → true ≡ not t → Absent ≡ elim t [ true ↦ field | false ↦ Absent ]
       go true e = absurd (false≢true (sym e))
       go false e = refl
+
+-- what a call's answer shows on one ring, once the answer is known
+pub answer-shown : {A : Type 0} (read : A → Answer) (rings : ℕ) {call : Answer} {absent : Bool} {a b : A} → absent ≡ false → absent ≡ not (eqb rings 1)
+    → read a ≡ call → a ≡ b → fieldOf (read b) ≡ onOneRing rings (fieldOf call)
+answer-shown read rings {call} here e f g =
+    sym (ap (λ x. fieldOf (read x)) g) ∙ ap fieldOf f ∙ shown-here rings (fieldOf call) (sym here ∙ e)
 
 -- a line of these fields is the board's
 pub board-line : (tablebase : List ℕ) (rings : ℕ) (b : List ℕ) → length b ≤ 24 → (p : Position) → p ≡ positionOf b → (m o r : ℕ) (entry move : Field)

@@ -15,6 +15,7 @@ use morris::Frame;
 use morris::Looked;
 use morris::Ranked;
 use text::Field;
+use text::Standing;
 
 // The largest count of the tablebase.
 pub const LARGEST_COUNT: u8 = 5;
@@ -79,16 +80,13 @@ fn put_board(tablebase: &[u16], rings: u8, board: &[u8], out: &mut [u8], at: usi
     let rank = rank_of(rings, board);
     let entry = entry_of(tablebase, rings, board);
     let best = move_of(tablebase, rings, board);
-    text::put_position(
-        out,
-        at,
-        rings as u64,
-        mover as u64,
-        opponent as u64,
+    let standing = Standing {
+        rings: rings as u64,
+        mover: mover as u64,
+        opponent: opponent as u64,
         rank,
-        entry,
-        best,
-    )
+    };
+    text::put_position(out, at, standing, entry, best)
 }
 
 // Writes the answer to a line.

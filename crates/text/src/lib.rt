@@ -13,6 +13,14 @@ pub enum Field {
     Absent,
 }
 
+// The table that a position stands in, and its rank there.
+pub struct Standing {
+    pub rings: u64,
+    pub mover: u64,
+    pub opponent: u64,
+    pub rank: u64,
+}
+
 // Writes bytes as they are.
 fn put(out: &mut [u8], at: usize, bytes: &[u8]) -> usize
     requires { ⌜ at + length (now bytes) ≤ length (now out) ⌝ }
@@ -60,22 +68,20 @@ fn put_item(out: &mut [u8], at: usize, field: Field, after: u8) -> usize
 pub fn put_position(
     out: &mut [u8],
     at: usize,
-    rings: u64,
-    mover: u64,
-    opponent: u64,
-    rank: u64,
+    standing: Standing,
     entry: Field,
     best: Field,
 ) -> usize
     requires { ⌜ at + mostBytes ≤ length (now out) ⌝ }
-    ensures place { λ r. ⌜ r ≡ at + length (positionLine rings mover opponent rank entry best) ⌝ }
+    ensures place { λ r. ⌜ r ≡ at + length (positionLine (standing .rings) (standing .mover) (standing .opponent) (standing .rank) entry best) ⌝ }
     ensures bound { λ r. ⌜ r ≤ at + mostBytes ⌝ }
-    ensures buffer { λ _. ⌜ now (out .exit) ≡ sets (now (out .entry)) at (positionLine rings mover opponent rank entry best) ⌝ }
+    ensures buffer { λ _. ⌜ now (out .exit)
+        ≡ sets (now (out .entry)) at (positionLine (standing .rings) (standing .mover) (standing .opponent) (standing .rank) entry best) ⌝ }
 {
-    let second = put_item(out, at, Field::Number(rings), b' ');
-    let third = put_item(out, second, Field::Number(mover), b' ');
-    let fourth = put_item(out, third, Field::Number(opponent), b' ');
-    let fifth = put_item(out, fourth, Field::Number(rank), b' ');
+    let second = put_item(out, at, Field::Number(standing.rings), b' ');
+    let third = put_item(out, second, Field::Number(standing.mover), b' ');
+    let fourth = put_item(out, third, Field::Number(standing.opponent), b' ');
+    let fifth = put_item(out, fourth, Field::Number(standing.rank), b' ');
     let sixth = put_item(out, fifth, entry, b' ');
     put_item(out, sixth, best, b'\n')
 }

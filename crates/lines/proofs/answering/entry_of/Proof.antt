@@ -1,10 +1,9 @@
 -- `lines::answering::entry_of` meets its contract: `-` on more than one ring, else what the call answers. Assumes nothing.
-use mathlib.Core.Path.{sym, ap, _∙_}
+use mathlib.Core.Path.{sym, _∙_}
 use borrow.Author.Needs.{needs}
-use Rattle.morris.specs.declared.answers.Looked.{Looked}
 use Rattle.morris.specs.LookupCall.{looked}
-use Rattle.lines.specs.Answers.{fieldOf, entryField}
-use Rattle.lines.proofs.Fields.{shown-here, absent-elsewhere}
+use Rattle.lines.specs.Answers.{entryField}
+use Rattle.lines.proofs.Fields.{answer-shown, absent-elsewhere}
 use Rattle.lines.proofs.answering.entry_of.Statement.{statement}
 use Rattle.lines.proofs.answering.entry_of.Tie as tie
 
@@ -13,9 +12,7 @@ is-absent-requires c κs = search needs
 
 returns : tie.Need-returns
 unfolding entryField
-returns c =
-    let x = c .before in
-    absent-elsewhere (x .before .before .before .args .rings) _ (sym (c .if1 .taken) ∙ x .is-absent .ensures)
+returns c = absent-elsewhere (c .before .before .before .before .args .rings) _ (sym (c .if1 .taken) ∙ c .before .is-absent .ensures)
 
 lookup-requires : tie.Need-lookup-requires
 lookup-requires c κs = search needs
@@ -31,8 +28,7 @@ unfolding entryField
 returns-2 c =
     let x = c .before .before in
     let i = x .before in
-    sym (ap (λ (a : Looked). fieldOf (looked a)) (c .enum-told .given .1)) ∙ ap fieldOf (x .lookup .ensures)
-    ∙ shown-here (i .before .before .before .before .args .rings) _ (sym (i .if1 .left) ∙ i .before .is-absent .ensures)
+    answer-shown looked (i .before .before .before .before .args .rings) (i .if1 .left) (i .before .is-absent .ensures) (x .lookup .ensures) (c .enum-told .given .1)
 
 cast-t7 : tie.Need-cast-t7
 cast-t7 c = search needs
@@ -42,8 +38,7 @@ unfolding entryField
 returns-3 c =
     let x = c .before .before .before in
     let i = x .before in
-    sym (ap (λ (a : Looked). fieldOf (looked a)) (c .before .answer .given .1)) ∙ ap fieldOf (x .lookup .ensures)
-    ∙ shown-here (i .before .before .before .before .args .rings) _ (sym (i .if1 .left) ∙ i .before .is-absent .ensures)
+    answer-shown looked (i .before .before .before .before .args .rings) (i .if1 .left) (i .before .is-absent .ensures) (x .lookup .ensures) (c .before .answer .given .1)
 
 pub entry-of-spec : {M : Type 1} → statement M
 entry-of-spec =

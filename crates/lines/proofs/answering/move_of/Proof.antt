@@ -1,10 +1,9 @@
 -- `lines::answering::move_of` meets its contract: `-` on more than one ring, else what the call answers. Assumes nothing.
-use mathlib.Core.Path.{sym, ap, _∙_}
+use mathlib.Core.Path.{sym, _∙_}
 use borrow.Author.Needs.{needs}
-use Rattle.morris.specs.declared.answers.Chosen.{Chosen}
 use Rattle.morris.specs.BestMoveCall.{chosen}
-use Rattle.lines.specs.Answers.{fieldOf, moveField}
-use Rattle.lines.proofs.Fields.{shown-here, absent-elsewhere}
+use Rattle.lines.specs.Answers.{moveField}
+use Rattle.lines.proofs.Fields.{answer-shown, absent-elsewhere}
 use Rattle.lines.proofs.answering.move_of.Statement.{statement}
 use Rattle.lines.proofs.answering.move_of.Tie as tie
 
@@ -13,9 +12,7 @@ is-absent-requires c κs = search needs
 
 returns : tie.Need-returns
 unfolding moveField
-returns c =
-    let x = c .before in
-    absent-elsewhere (x .before .before .before .args .rings) _ (sym (c .if1 .taken) ∙ x .is-absent .ensures)
+returns c = absent-elsewhere (c .before .before .before .before .args .rings) _ (sym (c .if1 .taken) ∙ c .before .is-absent .ensures)
 
 best-move-requires : tie.Need-best-move-requires
 best-move-requires c κs = search needs
@@ -31,8 +28,7 @@ unfolding moveField
 returns-2 c =
     let x = c .before .before in
     let i = x .before in
-    sym (ap (λ (a : Chosen). fieldOf (chosen a)) (c .enum-told .given .1)) ∙ ap fieldOf (x .best-move .ensures)
-    ∙ shown-here (i .before .before .before .before .args .rings) _ (sym (i .if1 .left) ∙ i .before .is-absent .ensures)
+    answer-shown chosen (i .before .before .before .before .args .rings) (i .if1 .left) (i .before .is-absent .ensures) (x .best-move .ensures) (c .enum-told .given .1)
 
 cast-t7 : tie.Need-cast-t7
 cast-t7 c = search needs
@@ -42,8 +38,7 @@ unfolding moveField
 returns-3 c =
     let x = c .before .before .before in
     let i = x .before in
-    sym (ap (λ (a : Chosen). fieldOf (chosen a)) (c .before .answer .given .1)) ∙ ap fieldOf (x .best-move .ensures)
-    ∙ shown-here (i .before .before .before .before .args .rings) _ (sym (i .if1 .left) ∙ i .before .is-absent .ensures)
+    answer-shown chosen (i .before .before .before .before .args .rings) (i .if1 .left) (i .before .is-absent .ensures) (x .best-move .ensures) (c .before .answer .given .1)
 
 pub move-of-spec : {M : Type 1} → statement M
 move-of-spec =

@@ -22,11 +22,11 @@ entry-of-requires c κs = search needs
 move-of-requires : tie.Need-move-of-requires
 move-of-requires c κs = search needs
 
-cast-put-position : tie.Need-cast-put-position
-cast-put-position c = search needs
+cast-t14 : tie.Need-cast-t14
+cast-t14 c = search needs
 
-cast-put-position-2 : tie.Need-cast-put-position-2
-cast-put-position-2 c = search needs
+cast-t15 : tie.Need-cast-t15
+cast-t15 c = search needs
 
 put-position-requires : tie.Need-put-position-requires
 put-position-requires c κs = search needs
@@ -60,8 +60,8 @@ put-board-spec =
     rank-of-requires
     entry-of-requires
     move-of-requires
-    cast-put-position
-    cast-put-position-2
+    cast-t14
+    cast-t15
     put-position-requires
     same-length
     returns)
