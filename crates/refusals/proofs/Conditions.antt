@@ -12,7 +12,7 @@ use Rattle.lists.proofs.Tests.{or-left, or-right}
 use Rattle.board.specs.Board.{Values, count}
 use Rattle.sizes.specs.Size.{size}
 use Rattle.refusals.specs.Refusals.{table, pickedRows, refusal}
-use Rattle.refusals.specs.Conditions.{boardPicks, countsPicks, rankPicks, shortPicks, targetPicks, movePicks, ringsWrong, lengthWrong, valueWrong, countsWrong, rankWrong, targetShort, moveWrong}
+use Rattle.refusals.specs.Conditions.{boardPicks, stonesPicks, countsPicks, rankPicks, shortPicks, targetPicks, movePicks, ringsWrong, lengthWrong, valueWrong, countsWrong, rankWrong, targetShort, moveWrong}
 use Rattle.refusals.proofs.FirstRefusal.{meets, passes, passed, first-kept, one-more}
 
 pub rings-right : (rings : ℕ) → ringsWrong rings ≡ false → (1 ≤ rings) × (rings ≤ 3)
@@ -103,6 +103,17 @@ accepted-board rings b e =
       values = values-right b (p .1 .1 .0);
       counted = counts-right (8 * rings) (count 1 b) (count 2 b) (p .1 .1 .1 .0);
     }
+
+-- counts come after rings, and a target after the counts
+pub stones-rings : (rings m o : ℕ) → 0 ≡ refusal (stonesPicks rings m o) → rings ≤ 3
+stones-rings rings m o e = rings-right rings (passed (pickedRows table (stonesPicks rings m o)) refl (sym e) .0) .1
+
+module _ (rings m o room : ℕ) where
+  pub stones-refused : (n : ℕ) → (n ≡ 0 → ⊥) → n ≡ refusal (stonesPicks rings m o) → n ≡ refusal (countsPicks rings m o room)
+  stones-refused n z e = first-kept (pickedRows table (stonesPicks rings m o)) (record { holds = lengthWrong rings room; number = 6 } ∷ []) n z e
+
+  pub room-decides : 0 ≡ refusal (stonesPicks rings m o) → refusal (countsPicks rings m o room) ≡ cond (lengthWrong rings room) 6 0
+  room-decides e = one-more (pickedRows table (stonesPicks rings m o)) (lengthWrong rings room) 6 refl e
 
 -- accepted counts and target
 pub record AcceptedCounts (rings m o room : ℕ) : Type 0 where

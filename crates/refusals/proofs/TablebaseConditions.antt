@@ -15,7 +15,7 @@ use Rattle.outcomes.specs.Places.{entryAt, isVoid, successorVoid, lowerVoid}
 use Rattle.outcomes.proofs.Boards.{InTables}
 use Rattle.refusals.specs.Refusals.{Picked, table, pickedRows, refusal}
 use Rattle.refusals.specs.Conditions.{countAbove, largestWrong, tablebaseWrong, largestLimit, limitWrong, moverBlocked}
-use Rattle.refusals.specs.Conditions.{boardPicks, largestPicks, tablebasePicks, lookupPicks, bestMovePicks, limitPicks, fillPicks, tablesPicks, pairPicks}
+use Rattle.refusals.specs.Conditions.{boardPicks, stonesPicks, largestPicks, tablebasePicks, lookupPicks, bestMovePicks, limitPicks, fillPicks, tablesPicks, pairPicks}
 use Rattle.refusals.proofs.FirstRefusal.{passed, first-kept, first-after, both-passed, first-cons, one-more}
 use Rattle.refusals.proofs.Conditions.{Counted, Accepted, rings-right, counts-right, accepted-board}
 
@@ -115,6 +115,18 @@ accepted-pair rings m o k limit n e =
       is-table = table-right (8 * rings) k m o (counts-right (8 * rings) m o (p .1 .0)) (l .none-above);
       limit-high = ltb-false largestLimit limit (p .1 .1 .1 .1 .0);
     }
+
+-- K, the limit and the tablebase come after the counts of a pair
+module _ (rings m o k limit n : ℕ) where
+  abbrev later : List Picked
+  later = pickedRows table (limitPicks rings k (countAbove k m o) limit n)
+
+  pub tables-refused : (r : ℕ) → (r ≡ 0 → ⊥) → r ≡ refusal (stonesPicks rings m o) → r ≡ refusal (tablesPicks rings m o k limit n)
+  tables-refused r z e = first-kept (pickedRows table (stonesPicks rings m o)) later r z e
+
+  pub tables-decides : 0 ≡ refusal (stonesPicks rings m o)
+      → refusal (tablesPicks rings m o k limit n) ≡ refusal (limitPicks rings k (countAbove k m o) limit n)
+  tables-decides e = first-after (pickedRows table (stonesPicks rings m o)) later refl e
 
 -- a limit comes after K and the tablebase
 module _ (rings k : ℕ) (above : Bool) (limit n : ℕ) where

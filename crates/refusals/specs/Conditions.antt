@@ -80,10 +80,13 @@ boardPicks rings b =
     ∷ pick wrongCounts (countsWrong (8 * rings) (count 1 b) (count 2 b))
     ∷ []
 
--- what a call picks for rings, counts and a target of so many bytes
+-- what a call picks for rings and counts
+abbrev pub stonesPicks : ℕ → ℕ → ℕ → List Pick
+stonesPicks rings m o = pick wrongRings (ringsWrong rings) ∷ pick wrongCounts (countsWrong (8 * rings) m o) ∷ []
+
+-- and for a target of so many bytes besides
 abbrev pub countsPicks : ℕ → ℕ → ℕ → ℕ → List Pick
-countsPicks rings m o room =
-    pick wrongRings (ringsWrong rings) ∷ pick wrongCounts (countsWrong (8 * rings) m o) ∷ pick wrongTarget (lengthWrong rings room) ∷ []
+countsPicks rings m o room = pick wrongTarget (lengthWrong rings room) ∷ stonesPicks rings m o
 
 -- and for a rank besides
 abbrev pub rankPicks : ℕ → ℕ → ℕ → ℕ → ℕ → List Pick
@@ -128,8 +131,7 @@ fillPicks rings k limit n = pick wrongRings (ringsWrong rings) ∷ limitPicks ri
 
 -- what a call picks to fill a pair of tables
 abbrev pub tablesPicks : ℕ → ℕ → ℕ → ℕ → ℕ → ℕ → List Pick
-tablesPicks rings m o k limit n =
-    pick wrongRings (ringsWrong rings) ∷ pick wrongCounts (countsWrong (8 * rings) m o) ∷ limitPicks rings k (countAbove k m o) limit n
+tablesPicks rings m o k limit n = limitPicks rings k (countAbove k m o) limit n ++ stonesPicks rings m o
 
 -- and for the lower tables besides; 12: void there
 abbrev pub pairPicks : ℕ → ℕ → ℕ → ℕ → ℕ → List ℕ → List Pick

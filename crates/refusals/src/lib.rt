@@ -7,7 +7,7 @@ ghost use Rattle.board.specs.Board.{count};
 ghost use Rattle.sizes.specs.Binomial.{BinomialTable};
 ghost use Rattle.refusals.specs.Refusals.{refusal};
 ghost use Rattle.refusals.specs.Conditions.{ringsWrong, valueWrong, countsWrong, countAbove, largestWrong, tablebaseWrong, limitWrong};
-ghost use Rattle.refusals.specs.Conditions.{boardPicks, countsPicks, targetPicks, framePicks};
+ghost use Rattle.refusals.specs.Conditions.{boardPicks, stonesPicks, countsPicks, targetPicks, framePicks};
 ghost use Rattle.refusals.specs.Conditions.{largestPicks, tablebasePicks, limitPicks, fillPicks, tablesPicks};
 
 // The refusal numbers of document 01.
@@ -165,18 +165,28 @@ pub fn of_target(rings: u8, board: &[u8], room: usize) -> u8
     0
 }
 
-// The first refusal that rings, counts and a target of so many bytes meet, or 0.
-pub fn of_counts(rings: u8, mover: u8, opponent: u8, room: usize) -> u8
-    ensures { λ r. ⌜ r ≡ refusal (countsPicks rings mover opponent room) ⌝ }
+// The first refusal that rings and counts meet, or 0.
+fn of_stones(rings: u8, mover: u8, opponent: u8) -> u8
+    ensures { λ r. ⌜ r ≡ refusal (stonesPicks rings mover opponent) ⌝ }
 {
     if rings_wrong(rings) {
         return RINGS;
     }
-    let points = 8 * rings as usize;
-    if counts_wrong(points as u32, mover as u32, opponent as u32) {
+    if counts_wrong(8 * rings as u32, mover as u32, opponent as u32) {
         return COUNTS;
     }
-    if room != points {
+    0
+}
+
+// The first refusal that rings, counts and a target of so many bytes meet, or 0.
+pub fn of_counts(rings: u8, mover: u8, opponent: u8, room: usize) -> u8
+    ensures { λ r. ⌜ r ≡ refusal (countsPicks rings mover opponent room) ⌝ }
+{
+    let refusal = of_stones(rings, mover, opponent);
+    if refusal != 0 {
+        return refusal;
+    }
+    if room != 8 * rings as usize {
         return TARGET_LENGTH;
     }
     0
@@ -249,11 +259,9 @@ pub fn of_pair(
     requires { ⌜ BinomialTable (now binomials) ⌝ }
     ensures { λ r. ⌜ r ≡ refusal (tablesPicks rings mover opponent k limit length) ⌝ }
 {
-    if rings_wrong(rings) {
-        return RINGS;
-    }
-    if counts_wrong(8 * rings as u32, mover as u32, opponent as u32) {
-        return COUNTS;
+    let refusal = of_stones(rings, mover, opponent);
+    if refusal != 0 {
+        return refusal;
     }
     let above = count_above(k as u32, mover as u32, opponent as u32);
     of_limit(binomials, rings, k, above, limit, length)
