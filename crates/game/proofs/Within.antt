@@ -32,36 +32,39 @@ unfolding lostBy
 lostBy-of {d} {n} p l = and-both _ _ (eq-eqb (d % 2) 0 p) (le-leb d n l)
 
 module _ {Pos : Type 0} (next : Pos → List Pos) (seed : Pos → Seed) where
+  -- a position whose plies decide: within none, and within one more
   pub won-zero : (p : Pos) → seed p ≡ live → won next seed zero p ≡ false
   unfolding won lost
   won-zero p e = rw (e, won)
-
-  pub won-suc : (n : ℕ) (p : Pos) → seed p ≡ live → won next seed (suc n) p ≡ any (λ q. lost next seed n q) (next p)
-  unfolding won lost
-  won-suc n p e = rw (e, won)
-
-  pub won-ends : (n : ℕ) (p : Pos) {d : ℕ} → seed p ≡ ends d → won next seed n p ≡ wonBy d n
-  unfolding won lost
-  won-ends zero p e = rw (e, won)
-  won-ends (suc n) p e = rw (e, won)
-
-  pub won-drawn : (n : ℕ) (p : Pos) → seed p ≡ drawn → won next seed n p ≡ false
-  unfolding won lost
-  won-drawn zero p e = rw (e, won)
-  won-drawn (suc n) p e = rw (e, won)
 
   pub lost-zero : (p : Pos) → seed p ≡ live → lost next seed zero p ≡ isEmpty (next p)
   unfolding won lost
   lost-zero p e = rw (e, lost)
 
+  pub won-suc : (n : ℕ) (p : Pos) → seed p ≡ live → won next seed (suc n) p ≡ any (λ q. lost next seed n q) (next p)
+  unfolding won lost
+  won-suc n p e = rw (e, won)
+
   pub lost-suc : (n : ℕ) (p : Pos) → seed p ≡ live → lost next seed (suc n) p ≡ all (λ q. won next seed n q) (next p)
   unfolding won lost
   lost-suc n p e = rw (e, lost)
+
+  -- one that is given a depth
+  pub won-ends : (n : ℕ) (p : Pos) {d : ℕ} → seed p ≡ ends d → won next seed n p ≡ wonBy d n
+  unfolding won lost
+  won-ends zero p e = rw (e, won)
+  won-ends (suc n) p e = rw (e, won)
 
   pub lost-ends : (n : ℕ) (p : Pos) {d : ℕ} → seed p ≡ ends d → lost next seed n p ≡ lostBy d n
   unfolding won lost
   lost-ends zero p e = rw (e, lost)
   lost-ends (suc n) p e = rw (e, lost)
+
+  -- one that is given a draw
+  pub won-drawn : (n : ℕ) (p : Pos) → seed p ≡ drawn → won next seed n p ≡ false
+  unfolding won lost
+  won-drawn zero p e = rw (e, won)
+  won-drawn (suc n) p e = rw (e, won)
 
   pub lost-drawn : (n : ℕ) (p : Pos) → seed p ≡ drawn → lost next seed n p ≡ false
   unfolding won lost

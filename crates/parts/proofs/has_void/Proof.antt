@@ -27,16 +27,16 @@ loop-holds : tie.Need-loop-holds Inv-loop μ-loop
 loop-holds c = (omega arith, rw (drop-length (c .args .part .now)))
 
 sub-i : tie.Need-sub-i Inv-loop μ-loop
-sub-i c = omega arith
+sub-i c = search needs
 
 mul-found : tie.Need-mul-found Inv-loop μ-loop
 mul-found c = search needs
 
 shared-slice-read-found : tie.Need-shared-slice-read-found Inv-loop μ-loop
-shared-slice-read-found c = omega arith
+shared-slice-read-found c = search needs
 
 loop-less : tie.Need-loop-less Inv-loop μ-loop
-loop-less c = omega arith
+loop-less c = search needs
 
 loop-again : tie.Need-loop-again Inv-loop μ-loop
 loop-again c =

@@ -31,15 +31,11 @@ counts-wrong-requires c κs = search needs
 
 returns-2 : tie.Need-returns-2
 unfolding rows
-returns-2 c =
-    let x = c .before .before in
-    meets (rows (x .before .before)) 1 (rings-passed x, tt) (sym (c .before .counts-wrong .ensures) ∙ c .if2 .taken)
+returns-2 c = let x = c .before .before in meets (rows (x .before .before)) 1 (rings-passed x, tt) (sym (c .before .counts-wrong .ensures) ∙ c .if2 .taken)
 
 returns-3 : tie.Need-returns-3
 unfolding rows
-returns-3 c =
-    let x = c .before .before in
-    passes (rows (x .before .before)) (rings-passed x, (sym (c .before .counts-wrong .ensures) ∙ c .if2 .left, tt))
+returns-3 c = let x = c .before .before in passes (rows (x .before .before)) (rings-passed x, (sym (c .before .counts-wrong .ensures) ∙ c .if2 .left, tt))
 
 pub of-stones-spec : {M : Type 1} → statement M
 of-stones-spec =
