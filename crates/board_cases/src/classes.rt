@@ -13,17 +13,13 @@ use notation::refused;
 use notation::table;
 use notation::text;
 
-fn represented(answer: Represented) {
-    match answer {
-        Represented::Rank(r) => number(r),
-        Represented::Refused(n) => refused(n),
-    }
-}
-
 fn representative_of(rings: u8, board: &[u8]) {
     about(b"representative", rings, board);
     colon();
-    represented(morris::representative(rings, board));
+    match morris::representative(rings, board) {
+        Represented::Rank(r) => number(r),
+        Represented::Refused(n) => refused(n),
+    }
     end();
 }
 

@@ -93,15 +93,20 @@ fn refused_lists() {
     moves(1, 8, 22221111, 0);
 }
 
+// The same of document 01's board.
+fn make_move_there(move_number: u16, room: usize) {
+    make_move(1, 8, 02122011, move_number, room);
+}
+
 // Moves made, with a removal and without, and each refusal; two stones may be left.
 fn plies() {
-    make_move(1, 8, 02122011, 5187, 8);
-    make_move(1, 8, 02122011, 5188, 8);
-    make_move(1, 8, 02122011, 95, 8);
-    make_move(1, 8, 02122011, 96, 8);
-    make_move(1, 8, 02122011, 5215, 8);
-    make_move(1, 8, 02122011, 65535, 8);
-    make_move(1, 8, 02122011, 96, 9);
+    make_move_there(5187, 8);
+    make_move_there(5188, 8);
+    make_move_there(95, 8);
+    make_move_there(96, 8);
+    make_move_there(5215, 8);
+    make_move_there(65535, 8);
+    make_move_there(96, 9);
     make_move(1, 8, 02022011, 95, 9);
     make_move(1, 8, 02132011, 95, 8);
     make_move(1, 7, 2122011, 95, 7);

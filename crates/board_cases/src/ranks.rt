@@ -117,19 +117,24 @@ fn refused_boards() {
     rank(1, 8, 11111222);
 }
 
+// The same of three against three on one ring.
+fn unrank_three(rank: u64, length: usize) {
+    unrank(1, 3, 3, rank, length);
+}
+
 // Boards of ranks on one ring, and each refusal.
 fn one_ring() {
-    unrank(1, 3, 3, 0, 8);
-    unrank(1, 3, 3, 559, 8);
-    unrank(1, 3, 3, 560, 8);
+    unrank_three(0, 8);
+    unrank_three(559, 8);
+    unrank_three(560, 8);
     unrank(1, 5, 3, 0, 8);
     unrank(1, 5, 4, 0, 8);
     unrank(1, 2, 3, 0, 8);
     unrank(1, 3, 10, 0, 8);
     unrank(0, 3, 3, 0, 8);
-    unrank(1, 3, 3, 560, 9);
+    unrank_three(560, 9);
     unrank(1, 5, 4, 560, 9);
-    unrank(1, 3, 3, 18446744073709551615, 8);
+    unrank_three(18446744073709551615, 8);
 }
 
 // Boards of ranks on three rings: the first and the last of the two sizes that document 01 gives.

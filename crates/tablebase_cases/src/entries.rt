@@ -63,13 +63,22 @@ fn best_move(rings: u8, length: usize, digits: u64, k: u8, tablebase: &[u16]) {
     best_move_of(rings, &board[0..n], k, tablebase);
 }
 
+// The same of one ring with K 5.
+fn entry(digits: u64, tablebase: &[u16]) {
+    lookup(1, 8, digits, 5, tablebase);
+}
+
+fn best(digits: u64, tablebase: &[u16]) {
+    best_move(1, 8, digits, 5, tablebase);
+}
+
 // Document 01's two boards, four against four, five against three, and a draw; K 9 has the same places.
 fn lookups(tablebase: &[u16]) {
-    lookup(1, 8, 02122011, 5, tablebase);
-    lookup(1, 8, 11120202, 5, tablebase);
-    lookup(1, 8, 11112222, 5, tablebase);
-    lookup(1, 8, 11212121, 5, tablebase);
-    lookup(1, 8, 00121122, 5, tablebase);
+    entry(02122011, tablebase);
+    entry(11120202, tablebase);
+    entry(11112222, tablebase);
+    entry(11212121, tablebase);
+    entry(00121122, tablebase);
     lookup(1, 8, 02122011, 9, tablebase);
     lookup(1, 8, 11212121, 9, tablebase);
 }
@@ -80,8 +89,8 @@ fn refused_lookups(tablebase: &[u16]) {
     lookup(4, 3, 011, 5, tablebase);
     lookup(1, 7, 2122011, 5, tablebase);
     lookup(2, 8, 32122011, 5, tablebase);
-    lookup(1, 8, 32122011, 5, tablebase);
-    lookup(1, 8, 02322011, 5, tablebase);
+    entry(32122011, tablebase);
+    entry(02322011, tablebase);
     lookup(1, 8, 02022011, 2, tablebase);
     lookup(1, 8, 02122011, 2, tablebase);
     lookup(1, 8, 02122011, 10, tablebase);
@@ -91,18 +100,18 @@ fn refused_lookups(tablebase: &[u16]) {
 
 // Document 01's two boards; the last listed of three wins, a draw rather than a loss; a blocked mover.
 fn best_moves(tablebase: &[u16]) {
-    best_move(1, 8, 02122011, 5, tablebase);
-    best_move(1, 8, 11120202, 5, tablebase);
-    best_move(1, 8, 01121222, 5, tablebase);
-    best_move(1, 8, 00121122, 5, tablebase);
-    best_move(1, 8, 11112222, 5, tablebase);
+    best(02122011, tablebase);
+    best(11120202, tablebase);
+    best(01121222, tablebase);
+    best(00121122, tablebase);
+    best(11112222, tablebase);
 }
 
 // Each refusal but 12, and the first of two.
 fn refused_best_moves(tablebase: &[u16]) {
     best_move(0, 3, 011, 5, tablebase);
     best_move(1, 7, 2122011, 5, tablebase);
-    best_move(1, 8, 02322011, 5, tablebase);
+    best(02322011, tablebase);
     best_move(1, 8, 02022011, 2, tablebase);
     best_move(1, 8, 11212121, 4, tablebase);
     best_move(1, 8, 11112222, 4, tablebase);
@@ -171,13 +180,13 @@ fn tables(word: &[u8], tablebase: &[u16]) {
 fn void_entry() {
     let mut tablebase = [7u16; 1302];
     tablebase[117] = VOID_ENTRY;
-    lookup(1, 8, 02122011, 5, &tablebase);
-    lookup(1, 8, 11120202, 5, &tablebase);
+    entry(02122011, &tablebase);
+    entry(11120202, &tablebase);
     lookup(1, 8, 02122011, 3, &tablebase);
-    best_move(1, 8, 02122011, 5, &tablebase);
-    best_move(1, 8, 10211022, 5, &tablebase);
+    best(02122011, &tablebase);
+    best(10211022, &tablebase);
     best_move(1, 8, 10211022, 4, &tablebase);
-    best_move(1, 8, 11120202, 5, &tablebase);
+    best(11120202, &tablebase);
     answers(b"answers beside a void", 3, 3, 560, &tablebase);
 }
 

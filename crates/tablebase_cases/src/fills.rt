@@ -156,14 +156,19 @@ fn four_against_four() {
     contents(&tablebase[1120..1190]);
 }
 
+// The same with one limit, over the 560 entries of one ring with K 3.
+fn within(limit: u32) {
+    fill(1, 3, limit, 560, 7);
+}
+
 // The limits of one ring with K 3: those too low and the least that is not, the highest and the first that is refused.
 fn limits() {
-    fill(1, 3, 0, 560, 7);
-    fill(1, 3, 1, 560, 7);
-    fill(1, 3, 2, 560, 7);
-    fill(1, 3, 3, 560, 7);
-    fill(1, 3, 65533, 560, 7);
-    fill(1, 3, 65534, 560, 7);
+    within(0);
+    within(1);
+    within(2);
+    within(3);
+    within(65533);
+    within(65534);
 }
 
 // Each refusal of a whole tablebase, and the first of two.
@@ -175,8 +180,8 @@ fn refused_fills() {
     fill(1, 4, 2000, 560, 7);
     fill(2, 3, 65534, 560, 7);
     fill(3, 9, 2000, 560, 7);
-    fill(1, 3, 65536, 560, 7);
-    fill(1, 3, 4294967295, 560, 7);
+    within(65536);
+    within(4294967295);
 }
 
 // Every pair of one ring in order: the last of them has the sums of a whole fill. K 9 has the same places, and four against five no room.
