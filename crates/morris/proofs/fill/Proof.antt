@@ -35,7 +35,8 @@ kept : (c : tie.After-solve-all) (deep : Bool) → c .solve-all .result ≡ deep
     (entered (solving c) .args .tablebase .now) (c .solve-all .last .0) (answer (cond deep 13 0) [])
 kept c deep d =
     let a = entered (solving c) .args in
-    fill-kept (a .rings) (a .k) (a .limit) (a .tablebase .now) (c .solve-all .last .0) (c .solve-all .result) deep (none (solving c)) (c .solve-all .ensures) d
+    fill-kept (a .rings) (a .k) (a .limit) (a .tablebase .now) (c .solve-all .last .0) (c .solve-all .result) deep (none (solving c))
+    (c .solve-all .ensures) d
 
 binomial-table-requires : tie.Need-binomial-table-requires
 binomial-table-requires c κs = search needs

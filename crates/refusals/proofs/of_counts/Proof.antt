@@ -1,7 +1,6 @@
 -- `refusals::of_counts` meets its contract: the refusals of rings and counts, then of the target. Assumes nothing.
 use mathlib.Core.Path.{_≡_, sym, ap, _∙_}
 use mathlib.Core.Bool.{Bool, cond, not}
-use Prim.Native.Nat.{_*_}
 use borrow.Author.Tests.{eq-eqb, ne-eqb}
 use borrow.Author.Needs.{needs}
 use Rattle.refusals.specs.Refusals.{refusal}

@@ -21,7 +21,8 @@ of-stones-requires c κs = search needs
 returns : tie.Need-returns
 returns c =
     let a = c .before .before .args in
-    tables-refused (a .rings) (a .mover) (a .opponent) (a .k) (a .limit) (a .length) (c .before .of-stones .result) (c .if1 .taken) (c .before .of-stones .ensures)
+    tables-refused (a .rings) (a .mover) (a .opponent) (a .k) (a .limit) (a .length) (c .before .of-stones .result) (c .if1 .taken)
+    (c .before .of-stones .ensures)
 
 count-above-requires : tie.Need-count-above-requires
 count-above-requires c κs = search needs

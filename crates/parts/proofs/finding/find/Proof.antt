@@ -1,6 +1,6 @@
 -- `parts::finding::find` meets its contract. The invariant: the value does not occur in what is passed. Assumes nothing.
 use mathlib.Core.Path.{_≡_, subst}
-use Prim.Native.Nat.{ℕ, _-_, _≤_}
+use Prim.Native.Nat.{ℕ, _-_}
 use native.Mathlib.Omega.{arith}
 use borrow.Author.Tests.{eq-eqb, ne-eqb}
 use Rattle.parts.specs.Finding.{Passed, isAt}
