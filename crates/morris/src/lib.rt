@@ -27,6 +27,8 @@ ghost use Rattle.morris.specs.BestMoveCall.{chosen, bestMoveCall};
 ghost use Rattle.morris.specs.Fills.{solved, FillCall, FillPairCall};
 ghost use Rattle.morris.specs.ReadFrameCall.{frameRead, readFrameCall};
 ghost use Rattle.morris.specs.WriteFrameCall.{frameWritten, writeFrameCall, writeFrameTarget};
+use solver::Bounds;
+use solver::Counts;
 
 // The rank of a board of 8 × rings bytes, 0 vacant, 1 the side to move, 2 the other side. Refusals: 1, 2, 3, 4.
 pub fn rank(rings: u8, board: &[u8]) -> Ranked
@@ -75,14 +77,13 @@ pub fn moves(rings: u8, board: &[u8], list: &mut [u16]) -> Listed
     if refusal != 0 {
         return Listed::Refused(refusal);
     }
-    let near = plies::neighbour_masks(rings as usize);
-    let mills = plies::mill_masks(rings as usize);
+    let masks = plies::masks_of(rings as usize);
     let position = board::position_of(board);
-    let count = plies::count_moves(rings as usize, &near, &mills, position);
+    let count = plies::count_moves(rings as usize, &masks, position);
     if list.len() < count {
         return Listed::Refused(refusals::SHORT_TARGET);
     }
-    plies::list_moves(rings as usize, &near, &mills, position, list);
+    plies::list_moves(rings as usize, &masks, position, list);
     Listed::Count(count)
 }
 
@@ -95,10 +96,9 @@ pub fn make_move(rings: u8, board: &[u8], number: u16, target: &mut [u8]) -> Mad
     if refusal != 0 {
         return Made::Refused(refusal);
     }
-    let near = plies::neighbour_masks(rings as usize);
-    let mills = plies::mill_masks(rings as usize);
+    let masks = plies::masks_of(rings as usize);
     let position = board::position_of(board);
-    if plies::is_move(rings as usize, &near, &mills, position, number as usize) {
+    if plies::is_move(rings as usize, &masks, position, number as usize) {
         let after = plies::after_ply(rings as usize, position, number as usize);
         board::write_board(after, target);
         return Made::Written;
@@ -148,21 +148,18 @@ pub fn best_move(rings: u8, board: &[u8], k: u8, tablebase: &[u16]) -> Chosen
     if refusal != 0 {
         return Chosen::Refused(refusal);
     }
-    let near = plies::neighbour_masks(rings as usize);
-    let mills = plies::mill_masks(rings as usize);
+    let masks = plies::masks_of(rings as usize);
     let position = board::position_of(board);
-    if plies::count_moves(rings as usize, &near, &mills, position) == 0 {
+    if plies::count_moves(rings as usize, &masks, position) == 0 {
         return Chosen::Refused(refusals::BLOCKED);
     }
     let starts = sweeping::starts_of(&binomials, rings as usize, k as usize, position);
     if probing::void_after(
         tablebase,
         &binomials,
-        &near,
-        &mills,
+        &masks,
         rings as usize,
-        starts.same,
-        starts.fewer,
+        starts,
         position,
     ) {
         return Chosen::Refused(refusals::VOID);
@@ -170,11 +167,9 @@ pub fn best_move(rings: u8, board: &[u8], k: u8, tablebase: &[u16]) -> Chosen
     let best = bestmove::best_move(
         tablebase,
         &binomials,
-        &near,
-        &mills,
+        &masks,
         rings as usize,
-        starts.same,
-        starts.fewer,
+        starts,
         position,
     );
     Chosen::Move {
@@ -192,18 +187,19 @@ pub fn fill(rings: u8, k: u8, limit: u32, tablebase: &mut [u16]) -> Solved
     if refusal != 0 {
         return Solved::Refused(refusal);
     }
-    let near = plies::neighbour_masks(rings as usize);
-    let mills = plies::mill_masks(rings as usize);
+    let masks = plies::masks_of(rings as usize);
     let images = imaging::ring_images();
+    let limit = limit as u16;
     if solver::solve_all(
         tablebase,
         &binomials,
-        &near,
-        &mills,
+        &masks,
         &images,
-        rings as usize,
-        k as usize,
-        limit as u16,
+        Bounds {
+            rings: rings as usize,
+            k: k as usize,
+            limit,
+        },
     ) {
         return Solved::Refused(refusals::TOO_DEEP);
     }
@@ -240,20 +236,23 @@ pub fn fill_pair(
     if solver::lower_void(tablebase, &binomials, rings as usize, k as usize, m, o) {
         return Solved::Refused(refusals::VOID);
     }
-    let near = plies::neighbour_masks(rings as usize);
-    let mills = plies::mill_masks(rings as usize);
+    let masks = plies::masks_of(rings as usize);
     let images = imaging::ring_images();
+    let limit = limit as u16;
     if solver::solve_given(
         tablebase,
         &binomials,
-        &near,
-        &mills,
+        &masks,
         &images,
-        rings as usize,
-        k as usize,
-        m,
-        o,
-        limit as u16,
+        Bounds {
+            rings: rings as usize,
+            k: k as usize,
+            limit,
+        },
+        Counts {
+            mover: m,
+            opponent: o,
+        },
     ) {
         return Solved::Refused(refusals::TOO_DEEP);
     }

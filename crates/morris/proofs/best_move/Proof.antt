@@ -22,6 +22,7 @@ use Rattle.refusals.proofs.Conditions.{few-points}
 use Rattle.morris.proofs.Positions.{Shows, board-shown}
 use Rattle.morris.proofs.BestMoves.{Starting, reads-of, void-of, move-of, entry-of}
 use Rattle.refusals.proofs.Answering.{answer-refused, answer-accepted}
+use Rattle.probing.specs.Questions.{Probing}
 use Rattle.morris.proofs.best_move.Statement.{statement}
 use Rattle.morris.proofs.best_move.Tie as tie
 
@@ -30,16 +31,16 @@ abbrev started : tie.Else1 → tie.Start
 started c = c .before .before .before .before .before .before
 
 abbrev placing : tie.After-position-of → tie.Else1
-placing c = c .before .before .before
+placing c = c .before .before
 
 abbrev counting : tie.After-count-moves → tie.After-position-of
-counting c = c .before .before .before
+counting c = c .before .before
 
 abbrev starting : tie.After-starts-of → tie.After-count-moves
 starting c = c .before .before .before
 
 abbrev asking : tie.After-void-after → tie.After-starts-of
-asking c = c .before .before .before .before
+asking c = c .before .before .before
 
 -- past the first refusals, board and tablebase are accepted
 passed-first : (c : tie.Else1)
@@ -75,6 +76,19 @@ starts : (c : tie.After-starts-of)
     (c .starts-of .result .same) (c .starts-of .result .fewer)
 starts c = record { board = shows (counting (starting c)) .back; same-is = c .starts-of .ensures .0; fewer-is = c .starts-of .ensures .1 }
 
+probed : (c : tie.After-starts-of)
+    → Probing (placing (counting (starting c)) .before .before .before .binomial-table .result)
+    (length (started (placing (counting (starting c))) .args .tablebase .now)) (started (placing (counting (starting c))) .args .rings)
+    (c .starts-of .result) (counting (starting c) .position-of .result)
+probed c =
+    let p = counting (starting c) in
+    let x = placing p in
+    record {
+      binomials = x .before .before .before .binomial-table .ensures;
+      placed = shows p .placed;
+      reads = reads-of _ _ _ (started x .args .tablebase .now) (known x) (starts c);
+    }
+
 unblocked : (c : tie.After-starts-of)
     → moverBlocked (started (placing (counting (starting c))) .args .rings) (started (placing (counting (starting c))) .args .board .now) ≡ false
 unblocked c = blocked (starting c) ∙ ne-eqb _ 0 (c .before .before .if2 .left)
@@ -102,19 +116,14 @@ returns c =
     answer-refused n _ _ (c .if1 .taken)
     (best-move-refused (a .rings) (a .board .now) (a .k) (a .tablebase .now) n (c .if1 .taken) (c .before .of-tablebase .ensures))
 
-neighbour-masks-requires : tie.Need-neighbour-masks-requires
-neighbour-masks-requires c κs = known c .board .rings-high
-
-mill-masks-requires : tie.Need-mill-masks-requires
-mill-masks-requires c κs = let w = known (c .before) .board in (w .rings-low, w .rings-high)
+masks-of-requires : tie.Need-masks-of-requires
+masks-of-requires c κs = known c .board .rings-high
 
 position-of-requires : tie.Need-position-of-requires
-position-of-requires c κs = few-points _ _ (known (c .before .before) .board)
+position-of-requires c κs = few-points _ _ (known (c .before) .board)
 
 count-moves-requires : tie.Need-count-moves-requires
-count-moves-requires c κs =
-    let p = c .before .before in
-    (p .before .before .neighbour-masks .ensures, (p .before .mill-masks .ensures, shows p .placed))
+count-moves-requires c κs = let p = c .before in record { masks = p .before .masks-of .ensures; placed = shows p .placed }
 
 returns-2 : tie.Need-returns-2
 unfolding bestMoveCall
@@ -134,15 +143,9 @@ starts-of-requires c κs =
 
 void-after-requires : tie.Need-void-after-requires
 void-after-requires c κs =
-    let s = c .before .before .before in
+    let s = c .before .before in
     let p = counting (starting s) in
-    let x = placing p in (
-      x .before .before .before .binomial-table .ensures,
-      (
-        p .before .before .neighbour-masks .ensures,
-        (p .before .mill-masks .ensures, (shows p .placed, reads-of _ _ _ (started x .args .tablebase .now) (known x) (starts s))),
-      ),
-    )
+    (probed s, p .before .masks-of .ensures)
 
 returns-3 : tie.Need-returns-3
 unfolding bestMoveCall
@@ -153,38 +156,25 @@ returns-3 c =
 
 best-move-requires : tie.Need-best-move-requires
 best-move-requires c κs =
-    let e = c .before .before .before in
+    let e = c .before .before in
     let s = asking (e .before) in
     let n = starting s in
     let p = counting n in
-    let x = placing p in
-    let w = known x in (
-      x .before .before .before .binomial-table .ensures,
-      (
-        p .before .before .neighbour-masks .ensures,
-        (
-          p .before .mill-masks .ensures,
-          (
-            shows p .placed,
-            (
-              reads-of _ _ _ (started x .args .tablebase .now) w (starts s),
-              (
-                sym (e .before .void-after .ensures) ∙ e .if3 .left,
-                (
-                  omega (arith, n .count-moves .ensures, s .before .before .if2 .left),
-                  omega (arith, w .board .counted, ap (count 1) (shows p .back), ap (count 2) (shows p .back)),
-                ),
-              ),
-            ),
-          ),
-        ),
-      ),
+    let w = known (placing p) .board .counted in (
+      record { probing = probed s; told = sym (e .before .void-after .ensures) ∙ e .if3 .left },
+      record {
+        masks = p .before .masks-of .ensures;
+        some = omega (arith, n .count-moves .ensures, s .before .before .if2 .left);
+        mover-most = omega (arith, w, ap (count 1) (shows p .back));
+        opponent-least = omega (arith, w, ap (count 2) (shows p .back));
+        opponent-most = omega (arith, w, ap (count 2) (shows p .back));
+      },
     )
 
 returns-4 : tie.Need-returns-4
 unfolding bestMoveCall
 returns-4 c =
-    let e = c .before .before .before .before in
+    let e = c .before .before .before in
     let v = e .before in
     let s = asking v in
     let x = placing (counting (starting s)) in
@@ -200,8 +190,7 @@ best-move-spec =
     binomial-table-requires
     of-tablebase-requires
     returns
-    neighbour-masks-requires
-    mill-masks-requires
+    masks-of-requires
     position-of-requires
     count-moves-requires
     returns-2

@@ -28,7 +28,7 @@ known c = accepted-fill _ _ _ _ (sym (none c))
 
 -- what the solver leaves keeps the promise
 abbrev solving : tie.After-solve-all → tie.Else1
-solving c = c .before .before .before .before .before .before .before .before .before
+solving c = c .before .before .before .before .before .before .before
 
 kept : (c : tie.After-solve-all) (deep : Bool) → c .solve-all .result ≡ deep
     → FillCall (entered (solving c) .args .rings) (entered (solving c) .args .k) (entered (solving c) .args .limit)
@@ -49,37 +49,27 @@ returns c =
     let a = c .before .before .before .before .before .args in
     fill-refused (a .rings) (a .k) (a .limit) (a .tablebase .now) (c .before .of-fill .result) (c .if1 .taken) (c .before .of-fill .ensures)
 
-neighbour-masks-requires : tie.Need-neighbour-masks-requires
-neighbour-masks-requires c κs = known c .tablebase .rings-high
-
-mill-masks-requires : tie.Need-mill-masks-requires
-mill-masks-requires c κs = let w = known (c .before) in (w .tablebase .rings-low, w .tablebase .rings-high)
+masks-of-requires : tie.Need-masks-of-requires
+masks-of-requires c κs = known c .tablebase .rings-high
 
 ring-images-requires : tie.Need-ring-images-requires
 ring-images-requires c κs = search needs
 
-cast-solve-all : tie.Need-cast-solve-all
-cast-solve-all c = omega (arith, known (c .before .before .before .before .before .before .before .before) .limit-high)
+cast-limit : tie.Need-cast-limit
+cast-limit c = omega (arith, known (c .before .before) .limit-high)
 
 solve-all-requires : tie.Need-solve-all-requires
 solve-all-requires c κs =
-    let w = known (c .before .before .before .before .before .before .before .before) in (
-      c .before .before .before .before .before .before .before .before .before .before .before .binomial-table .ensures,
-      (
-        c .before .before .before .before .before .before .before .neighbour-masks .ensures,
-        (
-          c .before .before .before .before .before .before .mill-masks .ensures,
-          (
-            w .tablebase .rings-high,
-            w .tablebase .largest-low,
-            w .tablebase .largest-high,
-            w .tablebase .exact,
-            omega (arith, w .limit-high),
-            c .before
-                .before .before .before .before .ring-images .ensures,
-          ),
-        ),
-      ),
+    let x = c .before .before .before .before .before .before in
+    let w = known x in (
+      record { binomials = x .before .before .before .binomial-table .ensures; masks = c .before .before .before .before .before .masks-of .ensures },
+      record {
+        some = w .tablebase .largest-low;
+        few = w .tablebase .largest-high;
+        room = w .tablebase .exact;
+        limit-low = omega (arith, w .limit-high);
+        images = c .before .before .before .before .ring-images .ensures;
+      },
     )
 
 same-length : tie.Need-same-length
@@ -101,10 +91,9 @@ fill-spec =
     binomial-table-requires
     of-fill-requires
     returns
-    neighbour-masks-requires
-    mill-masks-requires
+    masks-of-requires
     ring-images-requires
-    cast-solve-all
+    cast-limit
     solve-all-requires
     same-length
     returns-2

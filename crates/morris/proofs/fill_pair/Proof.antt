@@ -52,7 +52,7 @@ decided c t e =
 
 -- what the solver leaves keeps the promise
 abbrev solving : tie.After-solve-given → tie.Else1
-solving c = c .before .before .before .before .before .before .before .before .before .before .before .before .before
+solving c = c .before .before .before .before .before .before .before .before .before .before .before
 
 kept : (c : tie.After-solve-given) (deep : Bool) → c .solve-given .result ≡ deep
     → FillPairCall (entered (solving c) .args .rings) (entered (solving c) .args .mover) (entered (solving c) .args .opponent)
@@ -60,7 +60,7 @@ kept : (c : tie.After-solve-given) (deep : Bool) → c .solve-given .result ≡ 
     (answer (cond deep 13 0) [])
 kept c deep d =
     let a = entered (solving c) .args in
-    let free = c .before .before .before .before .before .before .before .before .before in
+    let free = c .before .before .before .before .before .before .before in
     pair-kept (a .rings) (a .k) (a .limit) (a .tablebase .now) (a .mover) (a .opponent) (c .solve-given .last .0) (c .solve-given .result) deep
     (sym (decided (solving c) false (sym (free .before .lower-void .ensures) ∙ free .if2 .left))) (c .solve-given .ensures) d
 
@@ -93,41 +93,32 @@ returns-2 c =
     pair-turned (a .rings) (a .k) (a .limit) (a .tablebase .now) (a .mover) (a .opponent) 12 (λ z. absurd (omega arith))
     (sym (decided x true (sym (c .before .lower-void .ensures) ∙ c .if2 .taken)))
 
-neighbour-masks-requires : tie.Need-neighbour-masks-requires
-neighbour-masks-requires c κs = known (c .before .before .before .before) .tablebase .rings-high
-
-mill-masks-requires : tie.Need-mill-masks-requires
-mill-masks-requires c κs = let w = known (c .before .before .before .before .before) in (w .tablebase .rings-low, w .tablebase .rings-high)
+masks-of-requires : tie.Need-masks-of-requires
+masks-of-requires c κs = known (c .before .before .before .before) .tablebase .rings-high
 
 ring-images-requires : tie.Need-ring-images-requires
 ring-images-requires c κs = search needs
 
-cast-solve-given : tie.Need-cast-solve-given
-cast-solve-given c = omega (arith, known (c .before .before .before .before .before .before .before .before .before .before .before .before) .limit-high)
+cast-limit : tie.Need-cast-limit
+cast-limit c = omega (arith, known (c .before .before .before .before .before .before) .limit-high)
 
 solve-given-requires : tie.Need-solve-given-requires
 solve-given-requires c κs =
-    let x = c .before .before .before .before .before .before .before .before .before .before .before .before in
+    let free = c .before .before .before .before .before .before in
+    let x = free .before .before .before .before in
     let a = entered x .args in
     let w = known x in (
-      c .before .before .before .before .before .before .before .before .before .before .before .before .before .before .before .binomial-table .ensures,
-      (
-        c .before .before .before .before .before .before .before .neighbour-masks .ensures,
-        (
-          c .before .before .before .before .before .before .mill-masks .ensures,
-          (
-            (is-pair x, w .tablebase .largest-high, w .tablebase .exact),
-            (
-              void-free (a .rings) (a .k) (a .tablebase .now) (w .tablebase .exact)
-                  (λ i. omega (arith, x .before .before .before .before .slice-known .given i)) (a .mover) (a .opponent) (is-pair x)
-                  (sym (c .before .before .before .before .before .before .before .before .before .lower-void .ensures)
-                  ∙ c .before .before .before .before .before .before .before .before .if2 .left),
-              omega (arith, w .limit-high),
-              c .before .before .before .before .before .ring-images .ensures,
-            ),
-          ),
-        ),
-      ),
+      record { binomials = x .before .before .before .binomial-table .ensures; masks = c .before .before .before .before .before .masks-of .ensures },
+      record {
+        pair = is-pair x;
+        few = w .tablebase .largest-high;
+        room = w .tablebase .exact;
+        valid = void-free (a .rings) (a .k) (a .tablebase .now) (w .tablebase .exact)
+            (λ i. omega (arith, x .before .before .before .before .slice-known .given i)) (a .mover) (a .opponent) (is-pair x)
+            (sym (free .before .lower-void .ensures) ∙ free .if2 .left);
+        limit-low = omega (arith, w .limit-high);
+        images = c .before .before .before .before .ring-images .ensures;
+      },
     )
 
 same-length-2 : tie.Need-same-length-2
@@ -152,10 +143,9 @@ fill-pair-spec =
     lower-void-requires
     same-length
     returns-2
-    neighbour-masks-requires
-    mill-masks-requires
+    masks-of-requires
     ring-images-requires
-    cast-solve-given
+    cast-limit
     solve-given-requires
     same-length-2
     returns-3

@@ -23,10 +23,10 @@ abbrev started : tie.Else1 → tie.Start
 started c = c .before .before .before .before
 
 abbrev placing : tie.After-position-of → tie.Else1
-placing c = c .before .before .before
+placing c = c .before .before
 
 abbrev testing : tie.After-is-move → tie.After-position-of
-testing c = c .before .before .before
+testing c = c .before .before
 
 -- past the first refusals the target has the board's length, the board is accepted, and its position shows it
 passed-target : (c : tie.Else1)
@@ -60,19 +60,14 @@ returns c =
     turned-back _ _ _ _ n (c .if1 .taken)
     (move-refused (a .rings) (a .board .now) (length (a .target .now)) (a .number) n (c .if1 .taken) (c .before .of-target .ensures))
 
-neighbour-masks-requires : tie.Need-neighbour-masks-requires
-neighbour-masks-requires c κs = board c .rings-high
-
-mill-masks-requires : tie.Need-mill-masks-requires
-mill-masks-requires c κs = (board (c .before) .rings-low, board (c .before) .rings-high)
+masks-of-requires : tie.Need-masks-of-requires
+masks-of-requires c κs = board c .rings-high
 
 position-of-requires : tie.Need-position-of-requires
-position-of-requires c κs = few-points _ _ (board (c .before .before))
+position-of-requires c κs = few-points _ _ (board (c .before))
 
 is-move-requires : tie.Need-is-move-requires
-is-move-requires c κs =
-    let p = c .before .before in
-    (p .before .before .neighbour-masks .ensures, (p .before .mill-masks .ensures, shows p .placed))
+is-move-requires c κs = let p = c .before in record { masks = p .before .masks-of .ensures; placed = shows p .placed }
 
 after-ply-requires : tie.Need-after-ply-requires
 after-ply-requires c κs =
@@ -81,7 +76,7 @@ after-ply-requires c κs =
 
 write-board-requires : tie.Need-write-board-requires
 write-board-requires c κs =
-    let x = placing (c .before .before .before .before .before .before) in
+    let x = placing (c .before .before .before .before .before) in
     omega (arith, room x, board x .rings-high)
 
 same-length : tie.Need-same-length
@@ -120,8 +115,7 @@ make-move-spec =
     (tie.spec
     of-target-requires
     returns
-    neighbour-masks-requires
-    mill-masks-requires
+    masks-of-requires
     position-of-requires
     is-move-requires
     after-ply-requires

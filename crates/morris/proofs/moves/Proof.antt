@@ -23,7 +23,7 @@ abbrev started : tie.Else1 → tie.Start
 started c = c .before .before .before .before
 
 abbrev placing : tie.After-position-of → tie.Else1
-placing c = c .before .before .before
+placing c = c .before .before
 
 -- past the first refusals the board is accepted, and its position shows it
 passed-board : (c : tie.Else1) → 0 ≡ refusal (boardPicks (started c .args .rings) (started c .args .board .now))
@@ -47,25 +47,20 @@ returns c =
     (short-refused (a .rings) (a .board .now) (length (a .list .now)) (length (listedMoves (a .rings) (a .board .now))) n (c .if1 .taken)
     (c .before .of-board .ensures))
 
-neighbour-masks-requires : tie.Need-neighbour-masks-requires
-neighbour-masks-requires c κs = board c .rings-high
-
-mill-masks-requires : tie.Need-mill-masks-requires
-mill-masks-requires c κs = (board (c .before) .rings-low, board (c .before) .rings-high)
+masks-of-requires : tie.Need-masks-of-requires
+masks-of-requires c κs = board c .rings-high
 
 position-of-requires : tie.Need-position-of-requires
-position-of-requires c κs = few-points _ _ (board (c .before .before))
+position-of-requires c κs = few-points _ _ (board (c .before))
 
 count-moves-requires : tie.Need-count-moves-requires
-count-moves-requires c κs =
-    let p = c .before .before in
-    (p .before .before .neighbour-masks .ensures, (p .before .mill-masks .ensures, shows p .placed))
+count-moves-requires c κs = let p = c .before in record { masks = p .before .masks-of .ensures; placed = shows p .placed }
 
 returns-2 : tie.Need-returns-2
 unfolding movesCall movesList
 returns-2 c =
     let n = c .before in
-    let p = n .before .before .before in
+    let p = n .before .before in
     let x = placing p in
     let a = started x .args in
     let m = length (listedMoves (a .rings) (a .board .now)) in
@@ -75,10 +70,10 @@ returns-2 c =
 
 list-moves-requires : tie.Need-list-moves-requires
 list-moves-requires c κs =
-    let e = c .before .before .before in
+    let e = c .before .before in
     let n = e .before in
-    let p = n .before .before .before in
-    (p .before .before .neighbour-masks .ensures, (p .before .mill-masks .ensures, (shows p .placed, omega (arith, e .if2 .left, n .count-moves .ensures))))
+    let p = n .before .before in
+    (record { masks = p .before .masks-of .ensures; placed = shows p .placed }, omega (arith, e .if2 .left, n .count-moves .ensures))
 
 same-length : tie.Need-same-length
 same-length c = search needs
@@ -86,9 +81,9 @@ same-length c = search needs
 returns-3 : tie.Need-returns-3
 unfolding movesCall movesList
 returns-3 c =
-    let e = c .before .before .before .before .before .before in
+    let e = c .before .before .before .before .before in
     let n = e .before in
-    let p = n .before .before .before in
+    let p = n .before .before in
     let x = placing p in
     let a = started x .args in
     let m = length (listedMoves (a .rings) (a .board .now)) in
@@ -104,8 +99,7 @@ moves-spec =
     (tie.spec
     of-board-requires
     returns
-    neighbour-masks-requires
-    mill-masks-requires
+    masks-of-requires
     position-of-requires
     count-moves-requires
     returns-2
