@@ -1,7 +1,7 @@
 // The tablebases of the two solvers held against each other, entry by entry: filled whole, and pairs over lower tables that are not symmetric.
-use super::fills::contents;
 use super::fills::make_up;
 use super::fills::put;
+use super::sums::contents;
 use notation::add;
 use notation::colon;
 use notation::end;

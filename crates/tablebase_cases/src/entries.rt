@@ -1,7 +1,7 @@
 // Entries looked up and best moves in a tablebase of one ring.
-use super::fills::VOID_ENTRY;
 use super::fills::make_up;
-use super::fills::with_digit;
+use super::sums::VOID_ENTRY;
+use super::sums::with_digit;
 use morris::Chosen;
 use morris::Looked;
 use morris::Unranked;

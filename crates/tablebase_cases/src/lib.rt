@@ -2,6 +2,7 @@
 mod agreement;
 mod entries;
 mod fills;
+mod sums;
 
 pub fn run() {
     fills::run();

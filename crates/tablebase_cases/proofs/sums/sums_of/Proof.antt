@@ -1,9 +1,9 @@
--- `tablebase_cases::fills::sums_of` is safe and ends. Assumes nothing.
+-- `tablebase_cases::sums::sums_of` is safe and ends. Assumes nothing.
 use Prim.Native.Nat.{_-_, _≤_}
 use lib.ListN.{length}
 use borrow.Author.Needs.{needs}
-use Rattle.tablebase_cases.proofs.fills.sums_of.Statement.{statement}
-use Rattle.tablebase_cases.proofs.fills.sums_of.Tie as tie
+use Rattle.tablebase_cases.proofs.sums.sums_of.Statement.{statement}
+use Rattle.tablebase_cases.proofs.sums.sums_of.Tie as tie
 
 abbrev Inv-loop : tie.InvT-loop
 Inv-loop tablebase sums₀ i₀ sums i = i ≤ length tablebase
