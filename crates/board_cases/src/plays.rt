@@ -1,5 +1,4 @@
 // Moves listed and made.
-ghost use Prim.Native.Nat.{_≤_};
 use super::boards::three_rings;
 use morris::Listed;
 use morris::Made;

@@ -14,7 +14,6 @@ use Rattle.lists.proofs.Tests.{clash}
 use Rattle.sizes.specs.Size.{size}
 use Rattle.ranking.specs.Rank.{rank}
 use Rattle.ranking.specs.Unrank.{unrank}
-use Rattle.layout.specs.Layout.{start}
 use Rattle.game.specs.Game.{live, drawEntry, voidEntry, Depth}
 use Rattle.game.specs.Judgement.{hit}
 use Rattle.game.proofs.Levels.{within-fewer, within-same}

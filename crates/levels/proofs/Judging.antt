@@ -19,12 +19,10 @@ use Rattle.outcomes.proofs.Ranked.{InTable, rank-in}
 use Rattle.outcomes.proofs.PairGame.{OnPair, InPair, pair-table}
 use Rattle.symmetry.specs.Symmetries.{image}
 use Rattle.game.proofs.Maps.{Maps, Image, Symmetric}
-use Rattle.game.proofs.Classes.{written}
 use Rattle.invariance.specs.Used.{LowerSymmetric}
 use Rattle.invariance.proofs.Groups.{Group}
 use Rattle.invariance.proofs.PairMaps.{pair-maps, image-table}
 use Rattle.sweeping.specs.declared.tables.Table.{Table}
-use Rattle.sweeping.specs.Levels.{judged}
 use Rattle.levels.proofs.Sides.{Side}
 use Rattle.levels.proofs.Views.{view}
 

@@ -9,7 +9,6 @@ use lib.ListN.{length, getD}
 use borrow.Author.Tests.{eq-eqb, lt-ltb, le-ltb}
 use Rattle.sizes.specs.Size.{size}
 use Rattle.ranking.specs.Rank.{rank}
-use Rattle.layout.specs.Layout.{start}
 use Rattle.rules.specs.Predecessors.{predecessors}
 use Rattle.game.specs.Game.{drawEntry, voidEntry}
 use Rattle.outcomes.proofs.Ranked.{InTable, rank-in, unrank-of}

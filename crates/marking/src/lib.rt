@@ -53,11 +53,11 @@ fn mark_put(
         let mut walk = ranking::begin(binomials, 8 * rings, base, theirs, sets::lowest(points));
         let mut left = points;
         while left != 0 {
-            let next = sets::take_lowest(left);
-            walk = ranking::go_to(binomials, 8 * rings, base, theirs, walk, next.lowest);
+            let p = sets::take_lowest(left);
+            walk = ranking::go_to(binomials, 8 * rings, base, theirs, walk, p.lowest);
             let r = ranking::rank_at(binomials, 8 * rings, base, theirs, walk);
             parts::mark_entry(tablebase, part, r);
-            left = next.rest;
+            left = p.rest;
         }
     }
 }
@@ -107,9 +107,9 @@ fn mark_each_origin(
 {
     let mut left = froms;
     while left != 0 {
-        let next = sets::take_lowest(left);
-        mark_origin(tablebase, binomials, rings, back, position, to, next.lowest);
-        left = next.rest;
+        let from = sets::take_lowest(left);
+        mark_origin(tablebase, binomials, rings, back, position, to, from.lowest);
+        left = from.rest;
     }
 }
 
@@ -201,7 +201,7 @@ pub fn mark_before(
 {
     let mut left = position.opponent;
     while left != 0 {
-        let next = sets::take_lowest(left);
+        let to = sets::take_lowest(left);
         mark_stone(
             tablebase,
             binomials,
@@ -209,8 +209,8 @@ pub fn mark_before(
             rings,
             back,
             position,
-            next.lowest,
+            to.lowest,
         );
-        left = next.rest;
+        left = to.rest;
     }
 }

@@ -14,11 +14,11 @@ pub fn blocked(rings: usize, masks: &[u32; 72], position: board::Position) -> bo
 {
     let mut left = position.mover;
     while left != 0 {
-        let next = sets::take_lowest(left);
-        if choices::targets(rings, masks, position, next.lowest) != 0 {
+        let from = sets::take_lowest(left);
+        if choices::targets(rings, masks, position, from.lowest) != 0 {
             return false;
         }
-        left = next.rest;
+        left = from.rest;
     }
     true
 }

@@ -44,9 +44,9 @@ fn unshielded(rings: usize, masks: &[u32; 72], side: u32) -> u32
     let mut s: u32 = 0;
     let mut left = side;
     while left != 0 {
-        let next = sets::take_lowest(left);
-        s = with_unshielded(rings, masks, side, s, next.lowest);
-        left = next.rest;
+        let p = sets::take_lowest(left);
+        s = with_unshielded(rings, masks, side, s, p.lowest);
+        left = p.rest;
     }
     s
 }

@@ -26,9 +26,9 @@ fn count_stone(
     let mut n = 0;
     let mut left = tos;
     while left != 0 {
-        let next = sets::take_lowest(left);
-        n += sets::count(choices::removals(rings, masks, position, from, next.lowest)) as usize;
-        left = next.rest;
+        let to = sets::take_lowest(left);
+        n += sets::count(choices::removals(rings, masks, position, from, to.lowest)) as usize;
+        left = to.rest;
     }
     n
 }
@@ -41,10 +41,10 @@ pub fn count_moves(rings: usize, masks: &[u32; 72], position: board::Position) -
     let mut n = 0;
     let mut left = position.mover;
     while left != 0 {
-        let next = sets::take_lowest(left);
-        let tos = choices::targets(rings, masks, position, next.lowest);
-        n += count_stone(rings, masks, position, next.lowest, tos);
-        left = next.rest;
+        let from = sets::take_lowest(left);
+        let tos = choices::targets(rings, masks, position, from.lowest);
+        n += count_stone(rings, masks, position, from.lowest, tos);
+        left = from.rest;
     }
     n
 }
@@ -57,10 +57,10 @@ fn list_removals(base: usize, removals: u32, list: &mut [u16], at: usize) -> usi
     let mut k = at;
     let mut left = removals;
     while left != 0 {
-        let next = sets::take_lowest(left);
-        list[k] = (base + next.lowest) as u16;
+        let p = sets::take_lowest(left);
+        list[k] = (base + p.lowest) as u16;
         k += 1;
-        left = next.rest;
+        left = p.rest;
     }
     k
 }
@@ -84,10 +84,10 @@ fn list_stone(
     let mut k = at;
     let mut left = tos;
     while left != 0 {
-        let next = sets::take_lowest(left);
-        let removals = choices::removals(rings, masks, position, from, next.lowest);
-        k = list_removals(slide_number(from, next.lowest), removals, list, k);
-        left = next.rest;
+        let to = sets::take_lowest(left);
+        let removals = choices::removals(rings, masks, position, from, to.lowest);
+        k = list_removals(slide_number(from, to.lowest), removals, list, k);
+        left = to.rest;
     }
     k
 }
@@ -101,9 +101,9 @@ pub fn list_moves(rings: usize, masks: &[u32; 72], position: board::Position, li
     let mut k = 0;
     let mut left = position.mover;
     while left != 0 {
-        let next = sets::take_lowest(left);
-        let tos = choices::targets(rings, masks, position, next.lowest);
-        k = list_stone(rings, masks, position, next.lowest, tos, list, k);
-        left = next.rest;
+        let from = sets::take_lowest(left);
+        let tos = choices::targets(rings, masks, position, from.lowest);
+        k = list_stone(rings, masks, position, from.lowest, tos, list, k);
+        left = from.rest;
     }
 }

@@ -14,7 +14,6 @@ use Rattle.board.specs.declared.position.Position.{Position}
 use Rattle.board.specs.Board.{count, boardOf, OnBoard}
 use Rattle.board.proofs.Sides.{length-board}
 use Rattle.board.proofs.OneToOne.{vacant-at}
-use Rattle.ranking.specs.declared.inserting.Insertion.{Insertion}
 use Rattle.ranking.specs.Inserting.{Inserting, Vacant}
 use Rattle.ranking.proofs.Puts.{take-mover-on, put-stone-board}
 use Rattle.rules.specs.Ply.{noRemoval, removedOf, moveNumber, targets, slide, removable, removals, listedMoves, afterPly}

@@ -1,7 +1,7 @@
 // Whether some successor of a position has an entry that is asked for: over sets, and no further than the first that has.
 ghost use mathlib.Core.Path.{_≡_};
 ghost use mathlib.Core.Bool.{true};
-ghost use Prim.Native.Nat.{ℕ, _+_, _*_, _<_};
+ghost use Prim.Native.Nat.{_+_, _*_, _<_};
 ghost use lib.ListN.{length};
 ghost use Rattle.lists.specs.Lists.{any, member};
 ghost use Rattle.sets.specs.Sets.{elements};
@@ -100,18 +100,18 @@ fn some_removal(
 {
     let mut left = removals;
     while left != 0 {
-        let next = sets::take_lowest(left);
+        let removed = sets::take_lowest(left);
         if leads(
             tablebase,
             binomials,
             rings,
             question,
             position,
-            slide + next.lowest,
+            slide + removed.lowest,
         ) {
             return true;
         }
-        left = next.rest;
+        left = removed.rest;
     }
     false
 }
@@ -134,20 +134,20 @@ fn some_slide(
 {
     let mut left = stone.tos;
     while left != 0 {
-        let next = sets::take_lowest(left);
-        let removals = plies::removals(rings, masks, position, stone.from, next.lowest);
+        let to = sets::take_lowest(left);
+        let removals = plies::removals(rings, masks, position, stone.from, to.lowest);
         if some_removal(
             tablebase,
             binomials,
             rings,
             question,
             position,
-            plies::slide_number(stone.from, next.lowest),
+            plies::slide_number(stone.from, to.lowest),
             removals,
         ) {
             return true;
         }
-        left = next.rest;
+        left = to.rest;
     }
     false
 }
@@ -209,9 +209,9 @@ fn some_jump(
     let mut walk = ranking::begin(binomials, 8 * rings, lifted, true, sets::lowest(stone.tos));
     let mut left = stone.tos;
     while left != 0 {
-        let next = sets::take_lowest(left);
-        walk = ranking::go_to(binomials, 8 * rings, lifted, true, walk, next.lowest);
-        let removals = plies::removals(rings, masks, position, stone.from, next.lowest);
+        let point = sets::take_lowest(left);
+        walk = ranking::go_to(binomials, 8 * rings, lifted, true, walk, point.lowest);
+        let removals = plies::removals(rings, masks, position, stone.from, point.lowest);
         if some_at(
             tablebase,
             binomials,
@@ -219,7 +219,7 @@ fn some_jump(
             question,
             position,
             Jump {
-                slide: plies::slide_number(stone.from, next.lowest),
+                slide: plies::slide_number(stone.from, point.lowest),
                 lifted: lifted,
                 walk: walk,
             },
@@ -227,7 +227,7 @@ fn some_jump(
         ) {
             return true;
         }
-        left = next.rest;
+        left = point.rest;
     }
     false
 }
@@ -289,8 +289,8 @@ pub fn some_successor(
 {
     let mut left = position.mover;
     while left != 0 {
-        let next = sets::take_lowest(left);
-        let tos = plies::targets(rings, masks, position, next.lowest);
+        let from = sets::take_lowest(left);
+        let tos = plies::targets(rings, masks, position, from.lowest);
         if some_target(
             tablebase,
             binomials,
@@ -299,13 +299,13 @@ pub fn some_successor(
             question,
             position,
             Stone {
-                from: next.lowest,
+                from: from.lowest,
                 tos: tos,
             },
         ) {
             return true;
         }
-        left = next.rest;
+        left = from.rest;
     }
     false
 }

@@ -1,22 +1,15 @@
 -- Digits of a union and of a difference of sets, and what a point's digits say of a board's stones. Assumes nothing.
-use mathlib.Core.Path.{_≡_, refl, sym, ap, ap₂, _∙_, subst}
-use mathlib.Core.Bool.{Bool, true, false}
-use mathlib.Core.List.{List, _∷_, List·Memᴰ, List·Memᴰ·cases-cons}
+use mathlib.Core.Path.{_≡_, sym, ap, ap₂, _∙_}
+use mathlib.Core.Bool.{true, false}
 use mathlib.Core.Logic.{⊎-elim}
 use Prim.Native.Nat.{ℕ, zero, suc, _+_, _-_, _*_, _/_, _%_, _^_, _≤_, _<_, min, max}
-use native.Mathlib.Nat.{pow-suc}
 use native.Mathlib.Omega.{arith}
 use lib.Arith.{digits-div, digits-mod}
-use lib.Bits.{bitAnd, bitOr, and-step, and-self, and-le-l, or-step, or-shr}
-use lib.Dec.{ltb}
+use lib.Bits.{bitAnd, bitOr, and-step, and-le-l, or-step, or-shr}
 use lib.ListN.{getD}
-use lib.Pow.{pow-pos}
-use borrow.Author.Tests.{eqb-true, eqb-false, ltb-true, ltb-false}
-use Rattle.lists.specs.Lists.{Rising}
-use Rattle.lists.proofs.Rises.{above-member}
-use Rattle.sets.specs.Sets.{bit, has, without, elements, lowest}
-use Rattle.sets.proofs.Laws.{bit-zero, bit-suc, bit-lt, bit-le, bit-cases, without-member}
-use Rattle.sets.proofs.Elements.{is-element, elements-rising, elements-lowest, lowest-member, lowest-low}
+use borrow.Author.Tests.{eqb-true, eqb-false}
+use Rattle.sets.specs.Sets.{bit, has}
+use Rattle.sets.proofs.Laws.{bit-zero, bit-suc, bit-lt, bit-cases}
 use Rattle.ranking.specs.Ends.{Ends}
 use Rattle.board.specs.declared.position.Position.{Position}
 use Rattle.board.specs.Board.{digit, valueAt, boardOf, OnBoard}

@@ -70,12 +70,12 @@ pub fn rank(binomials: &[u32; 625], points: usize, position: Position) -> usize
     let mut r: usize = 0;
     let mut left = position.mover | position.opponent;
     while left != 0 {
-        let next = sets::take_lowest(left);
-        let theirs = sets::has(position.opponent, next.lowest);
+        let p = sets::take_lowest(left);
+        let theirs = sets::has(position.opponent, p.lowest);
         stones += 1;
         o += theirs as usize;
-        r += contribution(binomials, theirs, next.lowest, stones, o);
-        left = next.rest;
+        r += contribution(binomials, theirs, p.lowest, stones, o);
+        left = p.rest;
     }
     r
 }

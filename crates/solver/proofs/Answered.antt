@@ -12,7 +12,6 @@ use borrow.Author.Tests.{eqb-true, eq-eqb}
 use Rattle.lists.proofs.Tests.{clash, and-left, and-right}
 use Rattle.sizes.specs.Size.{size}
 use Rattle.ranking.specs.Unrank.{unrank}
-use Rattle.layout.specs.Layout.{start}
 use Rattle.game.specs.Game.{Seed, drawEntry, voidEntry, ended, Entry}
 use Rattle.game.specs.Judgement.{decided}
 use Rattle.game.proofs.Least.{mono-le}

@@ -2,11 +2,10 @@
 use mathlib.Core.Path.{_≡_, sym, subst₂}
 use mathlib.Core.Bool.{Bool, true, false}
 use mathlib.Core.List.{List}
-use mathlib.Core.Logic.{_⊎_, inl, inr}
+use mathlib.Core.Logic.{inl, inr}
 use Prim.Native.Nat.{ℕ, _-_, _≤_}
 use native.Mathlib.Omega.{arith}
 use Rattle.symmetry.specs.Symmetries.{symmetries}
-use Rattle.outcomes.specs.Pair.{LowerTables}
 use Rattle.invariance.specs.Used.{Used, TableSymmetric, LowerSymmetric}
 use Rattle.invariance.proofs.Groups.{group-of}
 use Rattle.comparing.specs.Compared.{Decides}

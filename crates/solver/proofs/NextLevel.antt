@@ -9,7 +9,7 @@ use lib.Dec.{eqb, ltb}
 use lib.ListN.{length, getD}
 use borrow.Author.Tests.{eqb-true, eqb-false, ltb-true, ltb-false}
 use Rattle.board.specs.Board.{count}
-use Rattle.layout.specs.Layout.{start, end, tablebaseLength}
+use Rattle.layout.specs.Layout.{tablebaseLength}
 use Rattle.layout.proofs.OneToOne.{InRange, end-is, end-within}
 use Rattle.game.specs.Game.{drawEntry, voidEntry}
 use Rattle.game.proofs.Levels.{skip, stop}

@@ -7,7 +7,7 @@ use native.Mathlib.Omega.{arith}
 use lib.ListN.{length, getD}
 use Rattle.board.specs.Board.{count}
 use Rattle.sizes.specs.Size.{size}
-use Rattle.layout.specs.Layout.{start, end, tablebaseLength}
+use Rattle.layout.specs.Layout.{start, tablebaseLength}
 use Rattle.layout.proofs.OneToOne.{InRange, end-is, end-within}
 use Rattle.outcomes.specs.Places.{place, entryAt}
 use Rattle.outcomes.specs.Pair.{Pair}

@@ -2,7 +2,7 @@
 // one more than the least depth from the level on. The first level beyond the limit that writes anything shows a position that is too deep. Level
 // 65,534 is no entry: there one look decides.
 ghost use mathlib.Core.Path.{_≡_};
-ghost use Prim.Native.Nat.{_*_, _≤_, _<_, min};
+ghost use Prim.Native.Nat.{_*_, _<_, min};
 ghost use lib.ListN.{length};
 ghost use Rattle.game.specs.Game.{voidEntry};
 ghost use Rattle.probing.specs.Questions.{Lent};

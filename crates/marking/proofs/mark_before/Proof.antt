@@ -1,11 +1,11 @@
 -- `marking::mark_before` meets its contract. Assumes nothing.
-use mathlib.Core.Path.{_≡_, refl, sym, ap, _∙_}
+use mathlib.Core.Path.{_≡_, sym, ap, _∙_}
 use mathlib.Core.List.{List}
 use Prim.Native.Nat.{ℕ, _*_}
 use native.Mathlib.Nat.{lt-of-lt-of-le}
 use native.Mathlib.Omega.{arith}
 use lib.Pow.{pow-mono}
-use Rattle.sets.specs.Sets.{bit, without}
+use Rattle.sets.specs.Sets.{bit}
 use Rattle.board.specs.Board.{boardOf}
 use Rattle.plies.proofs.OnPositions.{opponent-small}
 use Rattle.marking.specs.Marks.{marked, places}

@@ -1,8 +1,6 @@
 -- `marking::mark_each_origin` meets its contract. Assumes nothing.
-use mathlib.Core.Path.{_≡_, refl, sym}
-use Prim.Native.Nat.{ℕ, _*_}
-use native.Mathlib.Omega.{arith}
-use Rattle.sets.specs.Sets.{without}
+use mathlib.Core.Path.{sym}
+use Prim.Native.Nat.{_*_}
 use Rattle.board.specs.Board.{boardOf}
 use Rattle.rules.specs.Predecessors.{restored}
 use Rattle.marking.specs.Stones.{VacantAt}

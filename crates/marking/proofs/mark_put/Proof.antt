@@ -1,10 +1,10 @@
 -- `marking::mark_put` meets its contract. The invariant: what the points left give is still to be marked, and the walk has not passed them. Assumes nothing.
-use mathlib.Core.Path.{_≡_, refl, sym, ap, subst, _∙_}
+use mathlib.Core.Path.{_≡_, sym, ap, subst, _∙_}
 use mathlib.Core.List.{List, [], _∷_, map}
 use Prim.Native.Nat.{ℕ, suc, _+_, _-_, _*_, _≤_, _<_}
 use native.Mathlib.Omega.{arith}
 use lib.ListN.{length, set}
-use Rattle.sets.specs.Sets.{bit, without, elements}
+use Rattle.sets.specs.Sets.{bit, elements}
 use Rattle.sets.proofs.Least.{lowest-least}
 use Rattle.sets.proofs.Elements.{lowest-member}
 use Rattle.board.specs.Board.{count, digit, boardOf}

@@ -5,7 +5,7 @@ use Prim.Native.Nat.{ℕ}
 use borrow.Author.Needs.{needs}
 use Rattle.board.specs.Board.{Values}
 use Rattle.ranking.specs.Rank.{rank}
-use Rattle.symmetry.specs.Symmetries.{symmetries, whole}
+use Rattle.symmetry.specs.Symmetries.{symmetries}
 use Rattle.symmetry.specs.Representative.{inUse, leastImage, representative}
 use Rattle.symmetry.proofs.Images.{whole-values}
 use Rattle.symmetry.proofs.Least.{least-values}

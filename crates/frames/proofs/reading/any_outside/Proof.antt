@@ -5,7 +5,7 @@ use Prim.Native.Nat.{ℕ, _≤_}
 use native.Mathlib.Omega.{arith}
 use lib.ListN.{length, drop}
 use lib.Seq.{drop-length}
-use Rattle.frames.specs.Frame.{outside, anyOutside}
+use Rattle.frames.specs.Frame.{anyOutside}
 use Rattle.frames.proofs.Characters.{outside-step}
 use Rattle.frames.proofs.reading.any_outside.Statement.{statement}
 use Rattle.frames.proofs.reading.any_outside.Tie as tie

@@ -1,6 +1,6 @@
 -- `parts::finding::pass` meets its contract. The invariant: the value does not occur in what is passed. Assumes nothing.
 use mathlib.Core.Path.{sym, _∙_}
-use Prim.Native.Nat.{_-_, _≤_}
+use Prim.Native.Nat.{_-_}
 use native.Mathlib.Omega.{arith}
 use Rattle.parts.specs.Finding.{Passed, isAt}
 use Rattle.parts.proofs.Occurs.{occurs-none}

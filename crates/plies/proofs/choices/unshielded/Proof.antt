@@ -1,12 +1,12 @@
 -- `plies::choices::unshielded` meets its contract. The invariant: what is there, with the unshielded among the stones left, is the whole. Assumes
 -- nothing.
-use mathlib.Core.Path.{_≡_, refl, sym, ap, _∙_}
+use mathlib.Core.Path.{_≡_, sym, ap, _∙_}
 use mathlib.Core.Bool.{Bool, not}
 use mathlib.Core.List.{List}
 use Prim.Native.Nat.{ℕ, _^_, _<_}
 use native.Mathlib.Omega.{arith}
 use Rattle.lists.specs.Lists.{keep}
-use Rattle.sets.specs.Sets.{has, without, elements, withAll, setFrom}
+use Rattle.sets.specs.Sets.{has, elements, withAll, setFrom}
 use Rattle.sets.proofs.Elements.{bit-low, elements-none, with-none, with-kept, from-is}
 use Rattle.rules.specs.Ply.{inMill}
 use Rattle.plies.proofs.choices.unshielded.Statement.{statement}

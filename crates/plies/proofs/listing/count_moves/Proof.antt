@@ -1,9 +1,9 @@
 -- `plies::listing::count_moves` meets its contract. Assumes nothing.
-use mathlib.Core.Path.{_≡_, refl, sym, ap, _∙_}
+use mathlib.Core.Path.{_≡_, sym, ap, _∙_}
 use Prim.Native.Nat.{ℕ, _*_}
 use native.Mathlib.Omega.{arith}
 use lib.ListN.{length}
-use Rattle.sets.specs.Sets.{bit, without}
+use Rattle.sets.specs.Sets.{bit}
 use Rattle.sets.proofs.Elements.{bit-low}
 use Rattle.sets.proofs.Passing.{Counted, counted-none, counted-more, counted-all}
 use Rattle.board.specs.Board.{boardOf}

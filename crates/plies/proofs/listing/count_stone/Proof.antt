@@ -1,10 +1,10 @@
 -- `plies::listing::count_stone` meets its contract. Assumes nothing.
-use mathlib.Core.Path.{_≡_, refl, sym, ap, _∙_}
+use mathlib.Core.Path.{_≡_, sym, ap, _∙_}
 use mathlib.Core.List.{List}
 use Prim.Native.Nat.{ℕ, _*_, _≤_}
 use native.Mathlib.Omega.{arith}
 use lib.ListN.{length, length-map}
-use Rattle.sets.specs.Sets.{members, without}
+use Rattle.sets.specs.Sets.{members}
 use Rattle.sets.proofs.Laws.{members-le}
 use Rattle.sets.proofs.Passing.{Counted, counted-none, counted-more, counted-all}
 use Rattle.board.specs.Board.{boardOf}

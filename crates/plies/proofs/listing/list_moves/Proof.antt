@@ -1,11 +1,11 @@
 -- `plies::listing::list_moves` meets its contract. Assumes nothing.
-use mathlib.Core.Path.{_≡_, refl, sym, ap, _∙_}
+use mathlib.Core.Path.{_≡_, sym, ap, _∙_}
 use mathlib.Core.List.{List}
 use Prim.Native.Nat.{ℕ, _+_, _*_}
 use native.Mathlib.Omega.{arith}
 use lib.ListN.{length}
 use lib.Seq.{sets}
-use Rattle.sets.specs.Sets.{bit, without, elements}
+use Rattle.sets.specs.Sets.{bit, elements}
 use Rattle.sets.proofs.Elements.{bit-low}
 use Rattle.sets.proofs.Passing.{Written, written-none, written-more, written-all, written-room}
 use Rattle.board.specs.Board.{boardOf}

@@ -1,12 +1,12 @@
 -- `plies::listing::list_removals` meets its contract. Assumes nothing.
-use mathlib.Core.Path.{_≡_, refl, ap, _∙_}
+use mathlib.Core.Path.{refl, ap, _∙_}
 use mathlib.Core.List.{List, [], _∷_}
 use Prim.Native.Nat.{ℕ, _+_, _≤_}
 use native.Mathlib.Omega.{arith}
 use borrow.Author.Needs.{needs}
 use lib.ListN.{length, length-map}
 use lib.Seq.{sets}
-use Rattle.sets.specs.Sets.{without, elements}
+use Rattle.sets.specs.Sets.{elements}
 use Rattle.sets.proofs.Passing.{Written, written-none, written-more, written-all, written-room, each-map}
 use Rattle.plies.proofs.listing.list_removals.Statement.{statement}
 use Rattle.plies.proofs.listing.list_removals.Tie as tie

@@ -1,14 +1,14 @@
 -- `plies::listing::list_stone` meets its contract. Assumes nothing.
-use mathlib.Core.Path.{_≡_, refl, sym, ap, _∙_}
+use mathlib.Core.Path.{_≡_, sym, ap, _∙_}
 use mathlib.Core.List.{map}
 use Prim.Native.Nat.{ℕ, _+_, _*_, _<_}
 use native.Mathlib.Omega.{arith}
 use lib.ListN.{length, length-map}
 use lib.Seq.{sets}
-use Rattle.sets.specs.Sets.{without, elements}
+use Rattle.sets.specs.Sets.{elements}
 use Rattle.sets.proofs.Passing.{Written, written-none, written-more, written-all, written-room}
 use Rattle.board.specs.Board.{boardOf}
-use Rattle.rules.specs.Ply.{slide, removable, removals, slideMoves}
+use Rattle.rules.specs.Ply.{slide, removable, slideMoves}
 use Rattle.plies.specs.Positions.{Slide}
 use Rattle.plies.proofs.OnPositions.{from-low}
 use Rattle.plies.proofs.Stones.{elements-removals}

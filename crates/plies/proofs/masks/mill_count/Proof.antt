@@ -1,9 +1,9 @@
 -- `plies::masks::mill_count` meets its contract. Assumes nothing.
-use mathlib.Core.Path.{_≡_, refl, ap, sym}
+use mathlib.Core.Path.{_≡_, refl}
 use Prim.Native.Nat.{ℕ, zero, suc, _*_, _≤_}
 use native.Mathlib.Omega.{arith}
 use lib.ListN.{length}
-use Rattle.board.specs.Geometry.{ringMills, mills}
+use Rattle.board.specs.Geometry.{mills}
 use Rattle.board.proofs.Geometry.{all-mills, ring-mills}
 use borrow.Author.Needs.{needs}
 use Rattle.plies.proofs.masks.mill_count.Statement.{statement}

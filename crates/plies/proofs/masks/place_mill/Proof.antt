@@ -1,12 +1,7 @@
 -- `plies::masks::place_mill` meets its contract. Assumes nothing.
-use mathlib.Core.Path.{refl, sym, ap₂, _∙_}
-use mathlib.Core.List.{List, []}
+use mathlib.Core.Path.{refl, ap₂, _∙_}
 use Prim.Native.Nat.{ℕ}
 use native.Mathlib.Omega.{arith}
-use lib.ListN.{getD}
-use Rattle.sets.specs.Sets.{setFrom}
-use Rattle.board.specs.Geometry.{mills}
-use Rattle.board.specs.Tables.{millPoint}
 use Rattle.board.proofs.Geometry.{mill-points}
 use Rattle.plies.specs.Placing.{placed, millPlaced}
 use borrow.Author.Needs.{needs}

@@ -15,7 +15,6 @@ use Rattle.rules.specs.Ply.{targets, removable, slideMoves, afterPly}
 use Rattle.plies.specs.Positions.{Slide}
 use Rattle.plies.proofs.OnPositions.{from-low}
 use Rattle.plies.proofs.Stones.{targets-fit, targets-vacant}
-use Rattle.plies.proofs.Numbers.{number-listed}
 use Rattle.plies.proofs.SomeMove.{some-slide, some-stone}
 use Rattle.probing.specs.Questions.{answers}
 use Rattle.probing.proofs.Jumps.{removing, lifted-placed, lifted-vacant, jumping}

@@ -1,8 +1,7 @@
 -- `probing::asking::some_removal` meets its contract. Assumes nothing.
-use mathlib.Core.Path.{_≡_, refl, sym, _∙_}
-use Prim.Native.Nat.{ℕ, _+_, _*_}
+use mathlib.Core.Path.{sym, _∙_}
+use Prim.Native.Nat.{_+_, _*_}
 use native.Mathlib.Omega.{arith}
-use Rattle.sets.specs.Sets.{without}
 use Rattle.sets.proofs.Passing.{Sought, sought-none, sought-more, sought-found, sought-all}
 use Rattle.board.specs.Board.{boardOf}
 use Rattle.rules.specs.Ply.{afterPly}

@@ -1,7 +1,7 @@
 -- `probing::asking::some_slide` meets its contract. Assumes nothing.
 use mathlib.Core.List.{List}
-use mathlib.Core.Path.{_≡_, refl, sym, ap, _∙_}
-use Prim.Native.Nat.{ℕ, _+_, _*_, _^_, _<_}
+use mathlib.Core.Path.{_≡_, sym, ap, _∙_}
+use Prim.Native.Nat.{ℕ, _+_, _*_, _<_}
 use native.Mathlib.Omega.{arith}
 use Rattle.lists.specs.Lists.{any}
 use Rattle.sets.specs.Sets.{bit, elements, setFrom}
@@ -11,7 +11,6 @@ use Rattle.rules.specs.Ply.{targets, removable, slideMoves, afterPly}
 use Rattle.plies.specs.Positions.{Slide}
 use Rattle.plies.proofs.OnPositions.{from-low}
 use Rattle.plies.proofs.Stones.{targets-fit, targets-vacant}
-use Rattle.plies.proofs.Numbers.{number-listed}
 use Rattle.plies.proofs.SomeMove.{some-slide, some-stone}
 use Rattle.probing.specs.Questions.{answers}
 use Rattle.probing.proofs.Jumps.{removing}

@@ -1,6 +1,5 @@
 -- `solver::given::given_maps` meets its contract. Assumes nothing.
-use mathlib.Core.Path.{_≡_, refl, sym, subst, subst₂}
-use mathlib.Core.Bool.{Bool}
+use mathlib.Core.Path.{refl, sym, subst, subst₂}
 use mathlib.Core.Logic.{inl}
 use Prim.Native.Nat.{ℕ, _-_, _≤_}
 use native.Mathlib.Omega.{arith}

@@ -7,7 +7,6 @@ use Rattle.outcomes.specs.Pair.{Pair}
 use Rattle.outcomes.specs.Order.{TrueOn, Before}
 use Rattle.outcomes.proofs.PairTrue.{lower-valid}
 use Rattle.outcomes.proofs.Order.{done-lower, done-pair, deep-whole, done-row}
-use mathlib.Core.Logic.{inr}
 use Rattle.invariance.proofs.Groups.{group-of}
 use Rattle.invariance.proofs.TrueSymmetric.{lower-true-symmetric}
 use Rattle.solver.specs.Solve.{PairFill}

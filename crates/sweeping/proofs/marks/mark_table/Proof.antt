@@ -11,7 +11,6 @@ use Rattle.ranking.specs.Unrank.{unrank}
 use Rattle.plies.specs.Positions.{Placed}
 use Rattle.imaging.specs.Images.{leastOfClass}
 use Rattle.sweeping.specs.Cursors.{Stands}
-use Rattle.sweeping.specs.Levels.{Lies}
 use Rattle.sweeping.specs.Marked.{Stored, isSource, markedFrom}
 use Rattle.sweeping.proofs.AtRank.{placed-at}
 use Rattle.sweeping.proofs.Sources.{room-before}
