@@ -16,7 +16,7 @@ use Rattle.probing.specs.Probes.{probe}
 use Rattle.probing.specs.Questions.{Probing}
 
 -- the successors' entries can be read, and none is void
-pub record Told (tablebase lent : List ℕ) (rings : ℕ) (starts : Starts) (position : Position) : Type 0 where
+pub record NoneVoid (tablebase lent : List ℕ) (rings : ℕ) (starts : Starts) (position : Position) : Type 0 where
   pub probing : Probing lent (length tablebase) rings starts position
   pub told : any (λ b. eqb (probe tablebase (starts .same) (starts .fewer) (count 2 (boardOf (8 * rings) position)) b) voidEntry)
       (successors (λ n c. removable n c) rings (boardOf (8 * rings) position)) ≡ false

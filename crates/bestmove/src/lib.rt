@@ -9,7 +9,7 @@ ghost use Rattle.lists.specs.Lists.{member};
 ghost use Rattle.board.specs.Board.{count, boardOf};
 ghost use Rattle.rules.specs.Ply.{listedMoves};
 ghost use Rattle.probing.specs.Questions.{Probing};
-ghost use Rattle.bestmove.specs.Choosing.{Told, Choosing};
+ghost use Rattle.bestmove.specs.Choosing.{NoneVoid, Choosing};
 ghost use Rattle.bestmove.specs.Best.{bestEntry, bestMove, entryBy, worth};
 use probing::Starts;
 use probing::VOID;
@@ -86,7 +86,7 @@ fn best_of(
     position: board::Position,
     moves: &[u16],
 ) -> Best
-    requires { ⌜ Told (now tablebase) (now binomials) rings starts position ⌝ }
+    requires { ⌜ NoneVoid (now tablebase) (now binomials) rings starts position ⌝ }
     requires { ⌜ (1 ≤ length (now moves)) × (now moves ≡ listedMoves rings (boardOf (8 * rings) position)) ⌝ }
     ensures number { λ r. ⌜ r .number ≡ bestMove (λ m. entryBy (now (tablebase .entry)) (starts .same) (starts .fewer) (boardOf (8 * rings) position) m)
         (listedMoves rings (boardOf (8 * rings) position)) ⌝ }
@@ -112,7 +112,7 @@ pub fn best_move(
     starts: Starts,
     position: board::Position,
 ) -> Best
-    requires { ⌜ Told (now tablebase) (now binomials) rings starts position ⌝ }
+    requires { ⌜ NoneVoid (now tablebase) (now binomials) rings starts position ⌝ }
     requires { ⌜ Choosing rings (now masks) position ⌝ }
     ensures number { λ r. ⌜ r .number ≡ bestMove (λ m. entryBy (now (tablebase .entry)) (starts .same) (starts .fewer) (boardOf (8 * rings) position) m)
         (listedMoves rings (boardOf (8 * rings) position)) ⌝ }

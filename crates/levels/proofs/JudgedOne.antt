@@ -56,10 +56,10 @@ module _ (rings k m o : ℕ) (pair : Pair rings k m o) (before : List ℕ) (vali
 
   module _ (x y : ℕ) (t : Table) (same : ℕ) (side : Side rings k m o x y t same) (level : ℕ) (low : level < voidEntry) (D : List ℕ → Type 0) where
     -- what holds before rank n
-    abbrev State : ℕ → List ℕ → Type 0
-    State n now = Judging rings k m o pair before valid maps group mirrored x y t same side level low D n now
+    abbrev JudgedTo : ℕ → List ℕ → Type 0
+    JudgedTo n now = Judging rings k m o pair before valid maps group mirrored x y t same side level low D n now
 
-    module _ (n : ℕ) (h : n < size (8 * rings) x y) (now : List ℕ) (w : State n now) where
+    module _ (n : ℕ) (h : n < size (8 * rings) x y) (now : List ℕ) (w : JudgedTo n now) where
       in-b : InTable rings x y (unrank (8 * rings) x y n)
       in-b = unrank-in rings x y n h
 
@@ -93,7 +93,7 @@ module _ (rings k m o : ℕ) (pair : Pair rings k m o) (before : List ℕ) (vali
           go (no d) = omega (arith, d)
 
       -- no mark at rank n
-      unmarked : (entryAt rings k now (unrank (8 * rings) x y n) ≡ voidEntry → ⊥) → State (suc n) now
+      unmarked : (entryAt rings k now (unrank (8 * rings) x y n) ≡ voidEntry → ⊥) → JudgedTo (suc n) now
       unmarked c = record {
         kept = w .kept;
         room = w .room;
@@ -146,7 +146,7 @@ module _ (rings k m o : ℕ) (pair : Pair rings k m o) (before : List ℕ) (vali
               clash (depth-hit-now (next rings) (λ c. pairSeed rings k m o before c) (OnPair rings m o) (pair-ground rings k m o pair before valid) level low
               (view rings k now) D (w .amid) (unrank (8 * rings) x y n) on-b live-b d) miss
 
-          missed : State (suc n) (set now (place rings k (unrank (8 * rings) x y n)) drawEntry)
+          missed : JudgedTo (suc n) (set now (place rings k (unrank (8 * rings) x y n)) drawEntry)
           missed = record {
             kept = kept-then rings k (BothTables m o) before now (set now (place rings k (unrank (8 * rings) x y n)) drawEntry) (w .kept)
                 (subst (λ (j : ℕ). Kept rings k (BothTables m o) now (set now j drawEntry)) (sym (place-unrank rings k x y n h))
@@ -217,7 +217,7 @@ module _ (rings k m o : ℕ) (pair : Pair rings k m o) (before : List ℕ) (vali
           either : (q : List ℕ) → OnPair rings m o q → Of (unrank (8 * rings) x y n) q ⊎ (Of (unrank (8 * rings) x y n) q → ⊥)
           either q s = apart rings k m o pair x y (side .both) (unrank (8 * rings) x y n) in-b (t .own .start) (side .located .start-is) maps few q s
 
-          hit-all : State (suc n) all-written
+          hit-all : JudgedTo (suc n) all-written
           hit-all = record {
             kept = kept-then rings k (BothTables m o) before now all-written (w .kept)
                 (written-kept rings k m o pair x y (side .both) (unrank (8 * rings) x y n) in-b (t .own .start) (side .located .start-is) level now maps few);
@@ -268,14 +268,14 @@ module _ (rings k m o : ℕ) (pair : Pair rings k m o) (before : List ℕ) (vali
                   )
 
       -- one position judged
-      pub judged-step : State (suc n) (judgedClass rings t same level maps now n)
+      pub judged-step : JudgedTo (suc n) (judgedClass rings t same level maps now n)
       unfolding judgedClass
       judged-step =
           go (eqb (entryAt rings k now (unrank (8 * rings) x y n)) voidEntry) refl (hit (next rings) (view rings k now) level (unrank (8 * rings) x y n)) refl
         where
           go : (a : Bool) → eqb (entryAt rings k now (unrank (8 * rings) x y n)) voidEntry ≡ a
               → (c : Bool) → hit (next rings) (view rings k now) level (unrank (8 * rings) x y n) ≡ c
-              → State (suc n) (judgedClass rings t same level maps now n)
+              → JudgedTo (suc n) (judgedClass rings t same level maps now n)
           go false e c f = rw (marked-is ∙ e, judgedClass) (unmarked (eqb-false (entryAt rings k now (unrank (8 * rings) x y n)) voidEntry e))
           go true e true f =
               rw (marked-is ∙ e, seen-is ∙ f, ranked-is rings k m o pair x y t same side n, judgedClass)
@@ -285,7 +285,7 @@ module _ (rings k m o : ℕ) (pair : Pair rings k m o) (before : List ℕ) (vali
               (missed (eqb-true (entryAt rings k now (unrank (8 * rings) x y n)) voidEntry e) f)
 
     -- place after place
-    pub judged-all : (now : List ℕ) → State 0 now → (n : ℕ) → n ≤ size (8 * rings) x y → State n (judgedFirst rings t same level maps now n)
+    pub judged-all : (now : List ℕ) → JudgedTo 0 now → (n : ℕ) → n ≤ size (8 * rings) x y → JudgedTo n (judgedFirst rings t same level maps now n)
     unfolding judgedFirst
     judged-all now w zero h = w
     judged-all now w (suc n) h = judged-step n h (judgedFirst rings t same level maps now n) (judged-all now w n (omega arith))

@@ -20,7 +20,7 @@ use Rattle.plies.proofs.After.{board-placed, board-back}
 use Rattle.refusals.proofs.Conditions.{Accepted, few-points}
 
 -- p shows the board b, as a position that was made of it does
-pub record Shows (rings : ℕ) (b : List ℕ) (p : Position) : Type 0 where
+pub record ShowsBoard (rings : ℕ) (b : List ℕ) (p : Position) : Type 0 where
   pub placed : Placed rings p
   pub on : OnBoard (length b) p
   pub back : boardOf (8 * rings) p ≡ b
@@ -34,7 +34,7 @@ module _ (rings : ℕ) (b : List ℕ) (w : Accepted rings b) where
   position-back = board-back rings (w .rings-high) b (w .values) (w .points)
 
   -- the position that was made of an accepted board
-  pub board-shown : (p : Position) → p ≡ positionOf b → Shows rings b p
+  pub board-shown : (p : Position) → p ≡ positionOf b → ShowsBoard rings b p
   board-shown p e =
       let f : boardOf (8 * rings) p ≡ b = ap (boardOf (8 * rings)) e ∙ position-back in
       record {

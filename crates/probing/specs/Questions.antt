@@ -28,7 +28,7 @@ pub record Probing (lent : List ℕ) (length rings : ℕ) (starts : Starts) (pos
   pub reads : Reads length (8 * rings) (count 1 (boardOf (8 * rings) position)) (count 2 (boardOf (8 * rings) position)) (starts .same) (starts .fewer)
 
 -- a position that a ply of a side has reached, where the other had so many stones: the tables are those of the position before
-pub record Reached (lent : List ℕ) (length rings : ℕ) (starts : Starts) (opponent : ℕ) (position : Position) : Type 0 where
+pub record AfterPly (lent : List ℕ) (length rings : ℕ) (starts : Starts) (opponent : ℕ) (position : Position) : Type 0 where
   pub binomials : BinomialTable lent
   pub placed : Placed rings position
   pub left : Left opponent (count 1 (boardOf (8 * rings) position))

@@ -11,7 +11,7 @@ ghost use Rattle.ranking.specs.Rank.{rank};
 ghost use Rattle.rules.specs.Ply.{afterPly, listedMoves};
 ghost use Rattle.plies.specs.Positions.{Placed};
 ghost use Rattle.probing.specs.Probes.{probe};
-ghost use Rattle.probing.specs.Questions.{Probing, Reached};
+ghost use Rattle.probing.specs.Questions.{Probing, AfterPly};
 
 // Where the tables of a position's successors start: of those without a removal, and of those with one.
 pub struct Starts {
@@ -44,7 +44,7 @@ pub fn entry_after(
     opponent: usize,
     position: board::Position,
 ) -> u16
-    requires { ⌜ Reached (now binomials) (length (now tablebase)) rings starts opponent position ⌝ }
+    requires { ⌜ AfterPly (now binomials) (length (now tablebase)) rings starts opponent position ⌝ }
     ensures { λ r. ⌜ r ≡ probe (now (tablebase .entry)) (starts .same) (starts .fewer) opponent (boardOf (8 * rings) position) ⌝ }
 {
     let stones = sets::count(position.mover) as usize;

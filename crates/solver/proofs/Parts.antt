@@ -19,7 +19,7 @@ use Rattle.parts.specs.Parts.{filledPart}
 use Rattle.parts.proofs.Filling.{filled-length, filled-in, filled-cases}
 use Rattle.sweeping.specs.declared.tables.Table.{Table}
 use Rattle.sweeping.specs.Tables.{Located}
-use Rattle.sweeping.specs.Levels.{Counted, Lies, Fits}
+use Rattle.sweeping.specs.Levels.{CountsFit, Lies, Fits}
 use Rattle.solver.specs.Pairs.{pairFilled}
 use Rattle.solver.specs.Solve.{Setting}
 use Rattle.sweeping.proofs.Probed.{reads-within}
@@ -111,7 +111,7 @@ module _ {n rings k m o : ℕ} {a b : Table} (s : Setting n rings k m o a b) whe
   pub second-lies : Lies (8 * rings) b n
   second-lies = record { whole = second-fits .end-is; within = second-fits .room }
 
-  pub first-counted : Counted a
+  pub first-counted : CountsFit a
   first-counted =
       let p = s .pair in
       let t = s .first in
@@ -121,7 +121,7 @@ module _ {n rings k m o : ℕ} {a b : Table} (s : Setting n rings k m o a b) whe
         opponent-most = omega (arith, p .opponent-high, s .few, t .opponent-is);
       }
 
-  pub second-counted : Counted b
+  pub second-counted : CountsFit b
   second-counted =
       let p = s .pair in
       let t = s .second in

@@ -17,7 +17,7 @@ use Rattle.invariance.specs.Used.{Used, LowerSymmetric}
 use Rattle.imaging.specs.declared.classes.Maps.{Maps}
 use Rattle.imaging.specs.Images.{RingImages}
 use Rattle.sweeping.specs.declared.tables.Table.{Table}
-use Rattle.sweeping.specs.Levels.{Fits, Counted, blockedFirst, openDecided, Found}
+use Rattle.sweeping.specs.Levels.{Fits, CountsFit, blockedFirst, openDecided, Found}
 use Rattle.sweeping.specs.Marked.{levelByClasses}
 use Rattle.solver.specs.declared.pairs.Tables.{Tables}
 use Rattle.solver.specs.declared.pairs.Bounds.{Bounds}
@@ -91,9 +91,9 @@ pub record PairSweeping (lent : List ℕ) (length : ℕ) (maps : Maps) (tables :
   pub images : RingImages lent
   pub few : maps .count ≤ 16
   pub first-fits : Fits length (maps .rings) (tables .first) (tables .second .own .start)
-  pub first-counted : Counted (tables .first)
+  pub first-counted : CountsFit (tables .first)
   pub second-fits : Fits length (maps .rings) (tables .second) (tables .first .own .start)
-  pub second-counted : Counted (tables .second)
+  pub second-counted : CountsFit (tables .second)
   pub above : 0 < level
   pub level-low : level < voidEntry
 

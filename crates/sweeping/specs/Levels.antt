@@ -30,7 +30,7 @@ pub record Fits (length rings : ℕ) (t : Table) (same : ℕ) : Type 0 where
   pub reads : Reads length (8 * rings) (t .mover) (t .opponent) same (t .lower .start)
 
 -- the counts of a table, three to the opponent at least
-pub record Counted (t : Table) : Type 0 where
+pub record CountsFit (t : Table) : Type 0 where
   pub mover-most : t .mover ≤ 24
   pub opponent-least : 3 ≤ t .opponent
   pub opponent-most : t .opponent ≤ 24

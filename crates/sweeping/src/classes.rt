@@ -5,7 +5,7 @@ ghost use Prim.Native.Nat.{_<_};
 ghost use lib.ListN.{length};
 ghost use Rattle.imaging.specs.Images.{leastOfClass};
 ghost use Rattle.probing.specs.Questions.{Lent};
-ghost use Rattle.sweeping.specs.Levels.{Counted, Sweeping};
+ghost use Rattle.sweeping.specs.Levels.{CountsFit, Sweeping};
 ghost use Rattle.sweeping.specs.Marked.{levelByClasses};
 use super::judging::judge_marked;
 use super::marks::Layer;
@@ -25,7 +25,7 @@ pub fn level_table(
     sweep: Sweep,
 )
     requires { ⌜ Lent (maps .rings) (now binomials) (now masks) ⌝ }
-    requires { ⌜ Sweeping (now images) (length (now tablebase)) maps sweep × Counted (sweep .table) × (0 < sweep .level) ⌝ }
+    requires { ⌜ Sweeping (now images) (length (now tablebase)) maps sweep × CountsFit (sweep .table) × (0 < sweep .level) ⌝ }
     ensures { λ _. ⌜ now (tablebase .exit)
         ≡ levelByClasses (maps .rings) (sweep .table) (sweep .same) (sweep .level) (maps .count) (leastOfClass (maps .rings) (maps .count))
         (now (tablebase .entry)) ⌝ }

@@ -19,7 +19,7 @@ use Rattle.refusals.specs.Answers.{accepted}
 use Rattle.morris.specs.BestMoveCall.{bestMoveCall}
 use Rattle.refusals.proofs.TablebaseConditions.{AcceptedEntry, accepted-entry, best-move-refused, best-move-decides}
 use Rattle.refusals.proofs.Conditions.{few-points}
-use Rattle.morris.proofs.Positions.{Shows, board-shown}
+use Rattle.morris.proofs.Positions.{ShowsBoard, board-shown}
 use Rattle.morris.proofs.BestMoves.{Starting, reads-of, void-of, move-of, entry-of}
 use Rattle.refusals.proofs.Answering.{answer-refused, answer-accepted}
 use Rattle.probing.specs.Questions.{Probing}
@@ -58,7 +58,7 @@ decided : (c : tie.Else1) (t u : Bool) → moverBlocked (started c .args .rings)
 decided c t u e f = best-move-decides _ _ _ _ (passed-first c) ∙ ap₂ (λ (x y : Bool). cond x 9 (cond y 12 0)) e f
 
 -- the position shows the board
-shows : (c : tie.After-position-of) → Shows (started (placing c) .args .rings) (started (placing c) .args .board .now) (c .position-of .result)
+shows : (c : tie.After-position-of) → ShowsBoard (started (placing c) .args .rings) (started (placing c) .args .board .now) (c .position-of .result)
 shows c = board-shown _ _ (known (placing c) .board) _ (c .position-of .ensures)
 
 -- its moves are counted, and its successors' tables found

@@ -19,7 +19,7 @@ use Rattle.refusals.specs.Answers.{accepted}
 use Rattle.morris.specs.LookupCall.{lookupCall}
 use Rattle.refusals.proofs.TablebaseConditions.{AcceptedEntry, accepted-entry, lookup-refused, lookup-decides}
 use Rattle.refusals.proofs.Conditions.{few-points}
-use Rattle.morris.proofs.Positions.{Shows, board-shown}
+use Rattle.morris.proofs.Positions.{ShowsBoard, board-shown}
 use Rattle.refusals.proofs.Answering.{answer-refused, answer-accepted}
 use Rattle.morris.proofs.lookup.Statement.{statement}
 use Rattle.morris.proofs.lookup.Tie as tie
@@ -52,7 +52,7 @@ decided : (c : tie.Else1) (t : Bool) → isVoid (entry (started c)) ≡ t
 decided c t e = lookup-decides _ _ _ _ (passed-first c) ∙ ap (λ (u : Bool). cond u 12 0) e
 
 -- the position shows the board, so its counts are the board's
-shows : (c : tie.After-position-of) → Shows (started (c .before) .args .rings) (started (c .before) .args .board .now) (c .position-of .result)
+shows : (c : tie.After-position-of) → ShowsBoard (started (c .before) .args .rings) (started (c .before) .args .board .now) (c .position-of .result)
 shows c = board-shown _ _ (known (c .before) .board) _ (c .position-of .ensures)
 
 mover-is : (c : tie.After-count2) → c .before .count .result ≡ count 1 (started (counting c) .args .board .now)

@@ -13,7 +13,7 @@ use Rattle.refusals.specs.Refusals.{refusal}
 use Rattle.refusals.specs.Conditions.{targetPicks}
 use Rattle.morris.specs.MakeMoveCall.{makeMoveCall, makeMoveTarget}
 use Rattle.refusals.proofs.Conditions.{Accepted, accepted-target, move-refused, move-decides, few-points}
-use Rattle.morris.proofs.Positions.{Shows, board-shown, after-back}
+use Rattle.morris.proofs.Positions.{ShowsBoard, board-shown, after-back}
 use Rattle.refusals.proofs.Answering.{turned-back, written}
 use Rattle.morris.proofs.make_move.Statement.{statement}
 use Rattle.morris.proofs.make_move.Tie as tie
@@ -39,7 +39,7 @@ room c = accepted-target _ (started c .args .board .now) _ (sym (passed-target c
 board : (c : tie.Else1) → Accepted (started c .args .rings) (started c .args .board .now)
 board c = accepted-target _ _ _ (sym (passed-target c)) .0
 
-shows : (c : tie.After-position-of) → Shows (started (placing c) .args .rings) (started (placing c) .args .board .now) (c .position-of .result)
+shows : (c : tie.After-position-of) → ShowsBoard (started (placing c) .args .rings) (started (placing c) .args .board .now) (c .position-of .result)
 shows c = board-shown _ _ (board (placing c)) _ (c .position-of .ensures)
 
 -- what was tested is whether the board has the move

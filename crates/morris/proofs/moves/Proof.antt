@@ -13,7 +13,7 @@ use Rattle.refusals.specs.Refusals.{refusal}
 use Rattle.refusals.specs.Conditions.{boardPicks}
 use Rattle.morris.specs.MovesCall.{movesCall, movesList}
 use Rattle.refusals.proofs.Conditions.{Accepted, accepted-board, short-refused, short-decides, few-points}
-use Rattle.morris.proofs.Positions.{Shows, board-shown}
+use Rattle.morris.proofs.Positions.{ShowsBoard, board-shown}
 use Rattle.refusals.proofs.Answering.{turned-back, written}
 use Rattle.morris.proofs.moves.Statement.{statement}
 use Rattle.morris.proofs.moves.Tie as tie
@@ -32,7 +32,7 @@ passed-board c = sym (c .if1 .left) ∙ c .before .of-board .ensures
 board : (c : tie.Else1) → Accepted (started c .args .rings) (started c .args .board .now)
 board c = accepted-board _ _ (sym (passed-board c))
 
-shows : (c : tie.After-position-of) → Shows (started (placing c) .args .rings) (started (placing c) .args .board .now) (c .position-of .result)
+shows : (c : tie.After-position-of) → ShowsBoard (started (placing c) .args .rings) (started (placing c) .args .board .now) (c .position-of .result)
 shows c = board-shown _ _ (board (placing c)) _ (c .position-of .ensures)
 
 of-board-requires : tie.Need-of-board-requires

@@ -9,7 +9,7 @@ use Rattle.refusals.specs.Conditions.{boardPicks}
 use Rattle.refusals.specs.Answers.{accepted}
 use Rattle.morris.specs.RankCall.{rankCall}
 use Rattle.refusals.proofs.Conditions.{Accepted, accepted-board, few-points}
-use Rattle.morris.proofs.Positions.{Shows, board-shown}
+use Rattle.morris.proofs.Positions.{ShowsBoard, board-shown}
 use Rattle.refusals.proofs.Answering.{answer-refused, answer-accepted}
 use Rattle.morris.proofs.rank.Statement.{statement}
 use Rattle.morris.proofs.rank.Tie as tie
@@ -23,7 +23,7 @@ board : (c : tie.Else1) → Accepted (started c .args .rings) (started c .args .
 board c = accepted-board _ _ (sym (c .before .of-board .ensures) ∙ c .if1 .left)
 
 shows : (c : tie.After-position-of)
-    → Shows (started (c .before .before) .args .rings) (started (c .before .before) .args .board .now) (c .position-of .result)
+    → ShowsBoard (started (c .before .before) .args .rings) (started (c .before .before) .args .board .now) (c .position-of .result)
 shows c = board-shown _ _ (board (c .before .before)) _ (c .position-of .ensures)
 
 of-board-requires : tie.Need-of-board-requires
