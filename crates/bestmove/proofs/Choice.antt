@@ -15,7 +15,8 @@ use Rattle.game.specs.Game.{drawEntry}
 use Rattle.game.specs.Judgement.{isLost}
 use Rattle.game.proofs.Entries.{lost-is}
 use Rattle.game.proofs.Judging.{least-lost-low, least-lost-in, greatest-in}
-use Rattle.bestmove.specs.Best.{bestEntry, firstThat, bestMove, worth}
+use Rattle.bestmove.specs.Best.{bestEntry, firstThat, bestMove}
+use Rattle.bestmove.specs.Inner.Worth.{worth}
 use Rattle.bestmove.proofs.FirstGreatest.{kept, kept-member, kept-top, kept-first}
 use Rattle.bestmove.proofs.Worths.{Told, worth-one, best-lost, best-draw, best-won, best-is}
 

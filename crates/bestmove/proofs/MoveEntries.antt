@@ -12,9 +12,9 @@ use Rattle.board.specs.Board.{count}
 use Rattle.rules.specs.Ply.{removable, listedMoves, afterPly, successors}
 use Rattle.rules.proofs.Listed.{of-successor}
 use Rattle.game.specs.Game.{voidEntry}
-use Rattle.probing.specs.Probes.{probe}
+use Rattle.probing.specs.Inner.Probes.{probe}
 use Rattle.probing.proofs.Reading.{probe-small}
-use Rattle.bestmove.specs.Best.{entryBy}
+use Rattle.bestmove.specs.Inner.Worth.{entryBy}
 use Rattle.bestmove.proofs.Worths.{Told}
 
 pub moves-told : (tablebase : List ℕ) → ((i : ℕ) → getD tablebase i 0 < 65536) → (same fewer rings : ℕ) (b : List ℕ)

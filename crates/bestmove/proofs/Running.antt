@@ -9,7 +9,8 @@ use lib.Dec.{ltb}
 use lib.ListN.{length, getD, drop}
 use lib.Seq.{drop-cons, drop-length}
 use Rattle.bestmove.specs.declared.Best.{Best}
-use Rattle.bestmove.specs.Best.{bestEntry, bestMove, worth}
+use Rattle.bestmove.specs.Best.{bestEntry, bestMove}
+use Rattle.bestmove.specs.Inner.Worth.{worth}
 use Rattle.bestmove.proofs.FirstGreatest.{kept, kept-better, kept-same}
 use Rattle.bestmove.proofs.Worths.{Told}
 use Rattle.bestmove.proofs.Choice.{kept-entry, kept-move}

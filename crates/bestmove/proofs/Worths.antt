@@ -12,7 +12,8 @@ use Rattle.game.specs.Game.{drawEntry, voidEntry}
 use Rattle.game.specs.Judgement.{isLost, isWon, leastLost, greatest}
 use Rattle.game.proofs.Entries.{lost-is, lost-of, won-is, won-of}
 use Rattle.game.proofs.Judging.{least-lost-low, least-lost-in, greatest-high, greatest-in}
-use Rattle.bestmove.specs.Best.{bestEntry, worth}
+use Rattle.bestmove.specs.Best.{bestEntry}
+use Rattle.bestmove.specs.Inner.Worth.{worth}
 
 -- an entry is not both
 lost-not-won : (e : ℕ) → isLost e ≡ true → isWon e ≡ false

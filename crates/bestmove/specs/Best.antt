@@ -2,14 +2,11 @@
 -- entries"): a move to a lost successor wins, and one to a won successor loses. Assumes nothing.
 use mathlib.Core.Bool.{Bool, true, false}
 use mathlib.Core.List.{List, [], _∷_, map}
-use Prim.Native.Nat.{ℕ, _+_, _-_}
+use Prim.Native.Nat.{ℕ}
 use lib.Dec.{eqb}
 use Rattle.lists.specs.Lists.{any}
-use Rattle.board.specs.Board.{count}
-use Rattle.rules.specs.Ply.{afterPly}
-use Rattle.game.specs.Game.{drawEntry, voidEntry}
-use Rattle.game.specs.Judgement.{isLost, isWon, leastLost, greatest}
-use Rattle.probing.specs.Probes.{probe}
+use Rattle.game.specs.Game.{drawEntry}
+use Rattle.game.specs.Judgement.{isLost, leastLost, greatest}
 
 -- the best of the successors' entries: the least lost one, else a draw, else the greatest
 unfoldable pub bestEntry : List ℕ → ℕ
@@ -26,14 +23,3 @@ firstThat f (m ∷ ms) = elim (f m) [ true ↦ m | false ↦ firstThat f ms ]
 -- the first listed move that leads to the best entry, where f gives the entry that a move leads to
 unfoldable pub bestMove : (ℕ → ℕ) → List ℕ → ℕ
 bestMove f ms = firstThat (λ m. eqb (f m) (bestEntry (map f ms))) ms
-
--- the entry of the successor of b that a move leads to
-abbrev pub entryBy : List ℕ → ℕ → ℕ → List ℕ → ℕ → ℕ
-entryBy tablebase same fewer b m = probe tablebase same fewer (count 2 b) (afterPly b m)
-
--- what a move to an entry is worth: less than a draw where the entry is won, the longer the better, and more where it is lost, the shorter the better
-unfoldable pub worth : ℕ → ℕ
-worth e = elim (isWon e) [
-  | true ↦ drawEntry - (voidEntry - e)
-  | false ↦ elim (isLost e) [ true ↦ drawEntry + (voidEntry - e) | false ↦ drawEntry ]
-]

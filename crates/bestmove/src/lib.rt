@@ -8,14 +8,11 @@ ghost use lib.ListN.{length};
 ghost use Rattle.lists.specs.Lists.{member};
 ghost use Rattle.board.specs.Board.{count, boardOf};
 ghost use Rattle.rules.specs.Ply.{listedMoves};
-ghost use Rattle.probing.specs.Questions.{Probing};
-ghost use Rattle.bestmove.specs.Choosing.{NoneVoid, Choosing};
-ghost use Rattle.bestmove.specs.Best.{bestEntry, bestMove, entryBy, worth};
+ghost use Rattle.probing.specs.Inner.Questions.{Probing};
+ghost use Rattle.bestmove.specs.Inner.Choosing.{NoneVoid, Choosing};
+ghost use Rattle.bestmove.specs.Best.{bestEntry, bestMove};
+ghost use Rattle.bestmove.specs.Inner.Worth.{entryBy, worth};
 use probing::Starts;
-use probing::VOID;
-
-// The entry of a draw, and its worth.
-const DRAW: u32 = parts::DRAW as u32;
 
 // No position has more moves.
 const MOVES_MAX: usize = 324;
@@ -31,14 +28,14 @@ fn worth(entry: u16) -> u32
     ensures { λ r. ⌜ r ≡ worth entry ⌝ }
 {
     let e = entry as u32;
-    if VOID <= e {
-        return DRAW;
+    if parts::VOID_WIDE <= e {
+        return parts::DRAW_WIDE;
     }
-    let nearness = VOID - e;
+    let nearness = parts::VOID_WIDE - e;
     if e % 2 == 1 {
-        return DRAW - nearness;
+        return parts::DRAW_WIDE - nearness;
     }
-    DRAW + nearness
+    parts::DRAW_WIDE + nearness
 }
 
 // Of two moves the first, unless the second is better.

@@ -4,7 +4,7 @@ use mathlib.Core.Bool.{Bool, true, false, _&&_, _||_}
 use mathlib.Core.List.{List, [], _∷_, _++_, map}
 use Prim.Native.Nat.{ℕ, _+_, _*_, _/_, _%_}
 use lib.Dec.{eqb}
-use Rattle.lists.specs.Lists.{range, keep, each}
+use Rattle.lists.specs.Lists.{range, keep, each, member}
 
 abbrev pub ring : ℕ → ℕ
 ring p = p / 8
@@ -42,3 +42,7 @@ crossMills = map (λ k. (2 * k + 1) ∷ (8 + (2 * k + 1)) ∷ (16 + (2 * k + 1))
 -- the mills of each ring, and on three rings also those across the rings
 unfoldable pub mills : ℕ → List (List ℕ)
 mills rings = each (λ r. ringMills r) (range 0 rings) ++ elim (eqb rings 3) [ true ↦ crossMills | false ↦ [] ]
+
+-- the mills through a point, two at the most
+unfoldable pub millsThrough : ℕ → ℕ → List (List ℕ)
+millsThrough rings p = keep (λ mill. member p mill) (mills rings)

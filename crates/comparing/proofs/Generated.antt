@@ -20,7 +20,7 @@ use Rattle.symmetry.specs.Symmetries.{symmetries, image}
 use Rattle.symmetry.proofs.Group.{compose, inverse, inverse-low}
 use Rattle.symmetry.proofs.Images.{image-zero}
 use Rattle.symmetry.proofs.Compose.{image-compose, image-back}
-use Rattle.invariance.specs.Used.{SymmetricFrom}
+use Rattle.invariance.specs.Symmetric.{SymmetricFrom}
 use Rattle.invariance.proofs.PairMaps.{image-table}
 
 -- turns by turns, mirrors from turns, and those with the rings reversed from the others
@@ -41,12 +41,12 @@ module _ (rings : ℕ) (few : rings ≤ 3) (start x y : ℕ) (tablebase : List �
   entry b = getD tablebase (start + rank b) 0
 
   -- the three that are tested keep the entry of b
-  pub record Kept (b : List ℕ) : Type 0 where
+  pub record SharedByThree (b : List ℕ) : Type 0 where
     pub turned : entry (image rings 1 b) ≡ entry b
     pub mirrored : entry (image rings 4 b) ≡ entry b
     pub reversed : entry (image rings 8 b) ≡ entry b
 
-  module _ (tested : (b : List ℕ) → InTable rings x y b → (entry b ≡ drawEntry) ⊎ Kept b) where
+  module _ (tested : (b : List ℕ) → InTable rings x y b → (entry b ≡ drawEntry) ⊎ SharedByThree b) where
     -- a position that is no draw
     module _ (b : List ℕ) (w : InTable rings x y b) (decided : entry b ≡ drawEntry → ⊥) where
       abbrev Same : ℕ → Type 0
@@ -56,10 +56,10 @@ module _ (rings : ℕ) (few : rings ≤ 3) (start x y : ℕ) (tablebase : List �
       in-table g l = image-table rings few g l x y b w
 
       -- an image has the entry too, so it is tested
-      image-kept : (h : ℕ) → h < symmetries → Same h → Kept (image rings h b)
+      image-kept : (h : ℕ) → h < symmetries → Same h → SharedByThree (image rings h b)
       image-kept h l s = go (tested (image rings h b) (in-table h l))
         where
-          go : (entry (image rings h b) ≡ drawEntry) ⊎ Kept (image rings h b) → Kept (image rings h b)
+          go : (entry (image rings h b) ≡ drawEntry) ⊎ SharedByThree (image rings h b) → SharedByThree (image rings h b)
           go (inl e) = absurd (decided (sym s ∙ e))
           go (inr k) = k
 
@@ -116,11 +116,11 @@ module _ (rings : ℕ) (few : rings ≤ 3) (start x y : ℕ) (tablebase : List �
             ∙ decided-kept (image rings g b) (image-table rings few g l x y b w) (eqb-false (entry (image rings g b)) drawEntry f) (inverse g)
             (inverse-low g l))
 
-  pub generated : ((r : ℕ) → r < size (8 * rings) x y → (getD tablebase (start + r) 0 ≡ drawEntry) ⊎ Kept (unrank (8 * rings) x y r))
+  pub generated : ((r : ℕ) → r < size (8 * rings) x y → (getD tablebase (start + r) 0 ≡ drawEntry) ⊎ SharedByThree (unrank (8 * rings) x y r))
       → SymmetricFrom symmetries rings start x y tablebase
   generated tested r g h l =
       all-kept each g l (unrank (8 * rings) x y r) (unrank-in rings x y r h)
       ∙ ap (λ (i : ℕ). getD tablebase (start + i) 0) (rank-unrank (8 * rings) x y r h .rank-is)
     where
-      each : (b : List ℕ) → InTable rings x y b → (entry b ≡ drawEntry) ⊎ Kept b
-      each b w = subst (λ (c : List ℕ). (entry b ≡ drawEntry) ⊎ Kept c) (unrank-of rings x y b w) (tested (rank b) (rank-in rings x y b w))
+      each : (b : List ℕ) → InTable rings x y b → (entry b ≡ drawEntry) ⊎ SharedByThree b
+      each b w = subst (λ (c : List ℕ). (entry b ≡ drawEntry) ⊎ SharedByThree c) (unrank-of rings x y b w) (tested (rank b) (rank-in rings x y b w))

@@ -16,10 +16,10 @@ use Rattle.ranking.specs.Unrank.{unrank}
 use Rattle.ranking.proofs.Inverse.{rank-unrank}
 use Rattle.game.specs.Game.{drawEntry}
 use Rattle.symmetry.specs.Symmetries.{symmetries, image}
-use Rattle.invariance.specs.Used.{SymmetricFrom}
-use Rattle.parts.specs.Finding.{First}
-use Rattle.comparing.specs.Compared.{imageHas, sameImages, isDecided}
-use Rattle.comparing.proofs.Generated.{Kept, generated}
+use Rattle.invariance.specs.Symmetric.{SymmetricFrom}
+use Rattle.parts.specs.Inner.Finding.{First}
+use Rattle.comparing.specs.Inner.Compared.{imageHas, sameImages, isDecided}
+use Rattle.comparing.proofs.Generated.{SharedByThree, generated}
 
 module _ (rings start m o : ℕ) (tablebase : List ℕ) where
   -- the entry of rank r, and the board of that rank
@@ -36,7 +36,7 @@ module _ (rings start m o : ℕ) (tablebase : List ℕ) where
     has g e = eqb-true _ _ e ∙ sym own
 
     pub images-kept : (few : rings ≤ 3) → sameImages rings start tablebase board (getD tablebase (start + r) 0) ≡ true
-        → Kept rings few start m o tablebase board
+        → SharedByThree rings few start m o tablebase board
     unfolding sameImages
     images-kept few e =
         let two = and-left (test 1 && test 4) (test 8) e in
@@ -61,27 +61,27 @@ module _ (rings start m o : ℕ) (tablebase : List ℕ) where
       images-same = rw (holds 1 (omega arith), holds 4 (omega arith), holds 8 (omega arith))
 
   -- the positions below r are draws or keep their entries
-  abbrev pub Passed : (few : rings ≤ 3) → ℕ → Type 0
-  Passed few n = (r : ℕ) → r < n → r < size (8 * rings) m o
-      → (getD tablebase (start + r) 0 ≡ drawEntry) ⊎ Kept rings few start m o tablebase (unrank (8 * rings) m o r)
+  abbrev pub AllTested : (few : rings ≤ 3) → ℕ → Type 0
+  AllTested few n = (r : ℕ) → r < n → r < size (8 * rings) m o
+      → (getD tablebase (start + r) 0 ≡ drawEntry) ⊎ SharedByThree rings few start m o tablebase (unrank (8 * rings) m o r)
 
-  pub passed-over : (few : rings ≤ 3) (from end i : ℕ) → First (isDecided start tablebase) from end i → Passed few from → Passed few i
+  pub passed-over : (few : rings ≤ 3) (from end i : ℕ) → First (isDecided start tablebase) from end i → AllTested few from → AllTested few i
   passed-over few from end i w p r l h = go (ltb r from) refl
     where
       go : (c : Bool) → ltb r from ≡ c
-          → (getD tablebase (start + r) 0 ≡ drawEntry) ⊎ Kept rings few start m o tablebase (unrank (8 * rings) m o r)
+          → (getD tablebase (start + r) 0 ≡ drawEntry) ⊎ SharedByThree rings few start m o tablebase (unrank (8 * rings) m o r)
       go true e = p r (ltb-true r from e) h
       go false e = inl (eqb-true _ _ (not-false _ (w .none r (ltb-false r from e) l)))
 
   pub passed-one : (few : rings ≤ 3) (n : ℕ) → sameImages rings start tablebase (unrank (8 * rings) m o n) (getD tablebase (start + n) 0) ≡ true
-      → Passed few n
-      → Passed few (n + 1)
+      → AllTested few n
+      → AllTested few (n + 1)
   passed-one few n e p r l h = go (ℕ-discrete r n)
     where
-      go : Dec (r ≡ n) → (getD tablebase (start + r) 0 ≡ drawEntry) ⊎ Kept rings few start m o tablebase (unrank (8 * rings) m o r)
+      go : Dec (r ≡ n) → (getD tablebase (start + r) 0 ≡ drawEntry) ⊎ SharedByThree rings few start m o tablebase (unrank (8 * rings) m o r)
       go (yes q) = inr (images-kept r h few (subst (λ (i : ℕ). sameImages rings start tablebase (unrank (8 * rings) m o i)
           (getD tablebase (start + i) 0) ≡ true) (sym q) e))
       go (no d) = p r (omega (arith, d)) h
 
-  pub passed-all : (few : rings ≤ 3) (n : ℕ) → n ≡ size (8 * rings) m o → Passed few n → SymmetricFrom symmetries rings start m o tablebase
+  pub passed-all : (few : rings ≤ 3) (n : ℕ) → n ≡ size (8 * rings) m o → AllTested few n → SymmetricFrom symmetries rings start m o tablebase
   passed-all few n e p = generated rings few start m o tablebase (λ r h. p r (omega (arith, e)) h)

@@ -5,12 +5,12 @@ ghost use Prim.Native.Nat.{_+_, _*_, _≤_, _<_};
 ghost use lib.ListN.{length};
 ghost use Rattle.board.specs.Board.{boardOf};
 ghost use Rattle.sizes.specs.Size.{size};
-ghost use Rattle.sizes.specs.Binomial.{BinomialTable};
+ghost use Rattle.sizes.specs.Inner.Binomial.{BinomialTable};
 ghost use Rattle.symmetry.specs.Symmetries.{symmetries};
-ghost use Rattle.invariance.specs.Used.{SymmetricFrom};
-ghost use Rattle.imaging.specs.Images.{RingImages};
-ghost use Rattle.parts.specs.Finding.{First};
-ghost use Rattle.comparing.specs.Compared.{Comparing, imageHas, sameImages, isDecided, Decides};
+ghost use Rattle.invariance.specs.Symmetric.{SymmetricFrom};
+ghost use Rattle.imaging.specs.Inner.Images.{RingImages};
+ghost use Rattle.parts.specs.Inner.Finding.{First};
+ghost use Rattle.comparing.specs.Inner.Compared.{Comparing, imageHas, sameImages, isDecided, Decides};
 use parts::DRAW;
 use sweeping::Source;
 

@@ -12,7 +12,7 @@ use Rattle.lists.proofs.Table.{everyTwo, every-two}
 use Rattle.sets.specs.Sets.{bit}
 use Rattle.sets.proofs.Laws.{same-set}
 use Rattle.symmetry.specs.Symmetries.{placeFrom, ringFrom, source}
-use Rattle.imaging.specs.Images.{ImageSet, RingImage, RingImages}
+use Rattle.imaging.specs.Inner.Images.{ImageSet, RingImage, RingImages}
 use Rattle.imaging.proofs.Bytes.{joined-first, joined-second, joined-third, first-byte, second-byte, third-byte}
 
 -- places: computed tests

@@ -20,11 +20,11 @@ use Rattle.symmetry.proofs.Group.{source-low}
 use Rattle.symmetry.proofs.Images.{image-zero, image-length, image-at}
 use Rattle.board.proofs.OneToOne.{mover-set}
 use Rattle.symmetry.specs.Symmetries.{symmetries, source, image}
-use Rattle.imaging.specs.Images.{ImageSet, number, isLeast}
+use Rattle.imaging.specs.Inner.Images.{ImageSet, moverSet, isLeast}
 
 -- the image of the mover's set is the mover's set of the image
 pub number-image : (rings : ℕ) → rings ≤ 3 → (g : ℕ) → g < symmetries → (p : Position) → OnBoard (8 * rings) p → (t : ℕ) → ImageSet rings g (p .mover) t
-    → t ≡ number (image rings g (boardOf (8 * rings) p))
+    → t ≡ moverSet (image rings g (boardOf (8 * rings) p))
 number-image rings few g h p w t i =
     same-set (8 * rings) t (setOf 1 c) (i .within) (subst (λ (n : ℕ). setOf 1 c < 2 ^ n) points (set-lt 1 c)) (λ q l.
     i .at q l ∙ ap (λ (x : ℕ). bit x (source rings g q)) (sym (mover-set (8 * rings) p w))
@@ -44,26 +44,26 @@ number-image rings few g h p w t i =
 module _ (rings maps : ℕ) (b : List ℕ) where
   -- no image below n
   abbrev pub NoLower : ℕ → Type 0
-  NoLower n = (h : ℕ) → h < n → number b ≤ number (image rings h b)
+  NoLower n = (h : ℕ) → h < n → moverSet b ≤ moverSet (image rings h b)
 
   -- the first symmetry changes nothing
   pub first-no-lower : NoLower 1
   first-no-lower h l =
       let z : h ≡ 0 = omega arith in
-      omega (arith, ap number (ap (λ (i : ℕ). image rings i b) z ∙ image-zero rings b))
+      omega (arith, ap moverSet (ap (λ (i : ℕ). image rings i b) z ∙ image-zero rings b))
 
-  pub no-lower : NoLower maps → true ≡ isLeast (λ c. number c) rings maps b
+  pub no-lower : NoLower maps → true ≡ isLeast (λ c. moverSet c) rings maps b
   unfolding isLeast
-  no-lower w = sym (member-all (λ h. leb (number b) (number (image rings h b))) (range 0 maps) (λ h m.
-      le-leb (number b) (number (image rings h b)) (w h (omega (arith, range-member maps 0 m)))))
+  no-lower w = sym (member-all (λ h. leb (moverSet b) (moverSet (image rings h b))) (range 0 maps) (λ h m.
+      le-leb (moverSet b) (moverSet (image rings h b)) (w h (omega (arith, range-member maps 0 m)))))
 
-  pub one-lower : (g : ℕ) → g < maps → number (image rings g b) < number b → false ≡ isLeast (λ c. number c) rings maps b
+  pub one-lower : (g : ℕ) → g < maps → moverSet (image rings g b) < moverSet b → false ≡ isLeast (λ c. moverSet c) rings maps b
   unfolding isLeast
   one-lower g l h =
-      untrue (all (λ i. leb (number b) (number (image rings i b))) (range 0 maps)) (λ t.
+      untrue (all (λ i. leb (moverSet b) (moverSet (image rings i b))) (range 0 maps)) (λ t.
       omega (
         arith,
         h,
-        leb-true (number b) (number (image rings g b))
-            (all-member (λ i. leb (number b) (number (image rings i b))) (range 0 maps) t g (member-range maps 0 g (omega arith) (omega arith))),
+        leb-true (moverSet b) (moverSet (image rings g b))
+            (all-member (λ i. leb (moverSet b) (moverSet (image rings i b))) (range 0 maps) t g (member-range maps 0 g (omega arith) (omega arith))),
       ))

@@ -10,7 +10,7 @@ use lib.Seq.{getD-set-same, getD-set-other}
 use Rattle.sets.specs.Sets.{bit}
 use Rattle.sets.proofs.Laws.{bit-zero, bit-suc, bit-lt}
 use Rattle.symmetry.specs.Symmetries.{placeFrom}
-use Rattle.imaging.specs.Images.{RingImage, RingImages}
+use Rattle.imaging.specs.Inner.Images.{RingImage, RingImages}
 
 -- the places from p on
 pub record Made (g s p out : ℕ) : Type 0 where

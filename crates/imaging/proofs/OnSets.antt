@@ -18,8 +18,8 @@ use Rattle.sizes.specs.Size.{size}
 use Rattle.ranking.specs.Rank.{rank}
 use Rattle.outcomes.proofs.Ranked.{InTable, rank-in}
 use Rattle.invariance.proofs.PairMaps.{image-table}
-use Rattle.imaging.specs.Images.{imagesWritten}
-use Rattle.imaging.specs.Images.{ImageSet}
+use Rattle.imaging.specs.Inner.Images.{imagesWritten}
+use Rattle.imaging.specs.Inner.Images.{ImageSet}
 
 module _ (rings : ℕ) (few : rings ≤ 3) (g : ℕ) (h : g < symmetries) (p q : Position) (mine : ImageSet rings g (p .mover) (q .mover))
     (theirs : ImageSet rings g (p .opponent) (q .opponent)) where

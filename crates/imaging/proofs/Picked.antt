@@ -15,7 +15,7 @@ use Rattle.symmetry.specs.Symmetries.{image}
 use Rattle.symmetry.proofs.Group.{compose}
 use Rattle.symmetry.proofs.Compose.{image-compose}
 use Rattle.invariance.proofs.Groups.{Group}
-use Rattle.imaging.specs.Images.{isLeast}
+use Rattle.imaging.specs.Inner.Images.{isLeast}
 
 -- a test that some image of each board of rings passes
 abbrev pub Picks : ℕ → ℕ → (List ℕ → Bool) → Type 0

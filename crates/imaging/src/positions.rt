@@ -3,7 +3,7 @@ ghost use mathlib.Core.Path.{_≡_};
 ghost use Prim.Native.Nat.{_*_, _^_, _≤_, _<_};
 ghost use Rattle.board.specs.Board.{boardOf, OnBoard};
 ghost use Rattle.symmetry.specs.Symmetries.{image};
-ghost use Rattle.imaging.specs.Images.{ImageSet, RingImages};
+ghost use Rattle.imaging.specs.Inner.Images.{ImageSet, RingImages};
 use super::rings::ring_image;
 
 // The image of a set: a byte for each ring, in order or reversed.

@@ -3,7 +3,7 @@ ghost use mathlib.Core.Path.{_≡_};
 ghost use Prim.Native.Nat.{_<_};
 ghost use Rattle.sets.specs.Sets.{bit};
 ghost use Rattle.symmetry.specs.Symmetries.{placeFrom};
-ghost use Rattle.imaging.specs.Images.{RingImage, RingImages};
+ghost use Rattle.imaging.specs.Inner.Images.{RingImage, RingImages};
 
 // One place of the image of a ring's set.
 fn place_bit(g: usize, s: u32, p: usize) -> u32

@@ -9,7 +9,7 @@ use borrow.Author.Tests.{ltb-true}
 use Rattle.lists.proofs.Table.{every, every-at, everyTwo, every-two}
 use Rattle.symmetry.specs.Symmetries.{symmetries}
 use Rattle.symmetry.proofs.Group.{compose, inverse}
-use Rattle.invariance.specs.Used.{Used}
+use Rattle.invariance.specs.Inner.Used.{Used}
 
 pub record Group (maps : ℕ) : Type 0 where
   pub low : 0 < maps

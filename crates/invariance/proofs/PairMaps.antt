@@ -12,14 +12,14 @@ use Rattle.outcomes.specs.Whole.{next}
 use Rattle.outcomes.specs.Pair.{Pair, inPair, given, pairSeed, LowerTables}
 use Rattle.outcomes.specs.Filled.{BothTables}
 use Rattle.outcomes.proofs.Ranked.{InTable, rank-in, unrank-of}
-use Rattle.outcomes.proofs.PairGame.{Counts, OnPair, InPair, in-pair, Reached, of-pair, two-left, below, reached, seed-in, seed-two, seed-given}
+use Rattle.outcomes.proofs.PairGame.{Counts, OnPair, InPair, in-pair, PairReached, of-pair, two-left, below, reached, seed-in, seed-two, seed-given}
 use Rattle.outcomes.proofs.Entries.{entry-rank}
 use Rattle.symmetry.specs.Symmetries.{symmetries, image}
 use Rattle.symmetry.proofs.Group.{compose, inverse}
 use Rattle.symmetry.proofs.Images.{image-zero, image-length, image-values}
 use Rattle.symmetry.proofs.Compose.{image-compose, image-back, image-count}
 use Rattle.game.proofs.Maps.{Maps}
-use Rattle.invariance.specs.Used.{LowerSymmetric}
+use Rattle.invariance.specs.Symmetric.{LowerSymmetric}
 use Rattle.invariance.proofs.Groups.{Group}
 use Rattle.invariance.proofs.WholeMaps.{next-forth, next-back}
 
@@ -81,7 +81,7 @@ module _ (rings k m o : ℕ) (pair : Pair rings k m o) (maps : ℕ) (w : Group m
       stones : count 1 (image rings g b) ≡ count 1 b
       stones = image-count rings (pair .small) b (s .points) g 1 h
 
-      go : Reached rings m o b → pairSeed rings k m o before (image rings g b) ≡ pairSeed rings k m o before b
+      go : PairReached rings m o b → pairSeed rings k m o before (image rings g b) ≡ pairSeed rings k m o before b
       go (of-pair i) = seed-in rings k m o before (image rings g b) (same ∙ in-pair i) ∙ sym (seed-in rings k m o before b (in-pair i))
       go (two-left f n) =
           seed-two rings k m o before (image rings g b) (same ∙ f) (omega (arith, stones)) ∙ sym (seed-two rings k m o before b f n)

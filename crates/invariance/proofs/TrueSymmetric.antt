@@ -17,7 +17,7 @@ use Rattle.outcomes.proofs.Ranked.{unrank-in, rank-in, unrank-of}
 use Rattle.outcomes.proofs.PairTrue.{LowerTrue}
 use Rattle.symmetry.specs.Symmetries.{image}
 use Rattle.symmetry.proofs.Images.{image-zero}
-use Rattle.invariance.specs.Used.{TableSymmetric, LowerSymmetric}
+use Rattle.invariance.specs.Symmetric.{TableSymmetric, LowerSymmetric}
 use Rattle.invariance.proofs.Groups.{Group}
 use Rattle.invariance.proofs.WholeMaps.{image-entry}
 use Rattle.invariance.proofs.PairMaps.{image-table}

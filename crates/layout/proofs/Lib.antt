@@ -1,3 +1,3 @@
-pub mod Parts
+pub mod Consecutive
 pub mod Places
 pub mod OneToOne

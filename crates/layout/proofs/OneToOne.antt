@@ -12,7 +12,7 @@ use Rattle.lists.proofs.Members.{keep-member, member-keep, each-member, member-
 use Rattle.sizes.specs.Size.{size}
 use Rattle.layout.specs.Layout.{Table, table, stones, row, tables, entries, earlier, start, end, tablebaseLength}
 use Rattle.sizes.proofs.Multinomials.{stones-few}
-use Rattle.layout.proofs.Parts.{part-before, part-of}
+use Rattle.layout.proofs.Consecutive.{part-before, part-of}
 use Rattle.layout.proofs.Places.{rowPart, rowsPart, row-more, rows-more, start-is, length-is}
 
 -- (m, o) is a table of largest count k
@@ -136,13 +136,13 @@ module _ (points k : ℕ) where
   place-low w = omega (arith, w .at, w .rank-low, end-low (w .is-table))
 
   -- each place of the tablebase is the place of some rank in some table
-  pub record Placed (x : ℕ) : Type 0 where
+  pub record SomePlace (x : ℕ) : Type 0 where
     pub mover : ℕ
     pub opponent : ℕ
     pub rank : ℕ
     pub place : PlaceOf points k mover opponent rank x
 
-  pub place-found : (x : ℕ) → x < tablebaseLength points k → Placed x
+  pub place-found : (x : ℕ) → x < tablebaseLength points k → SomePlace x
   place-found x h =
       let a = part-of (rowsPart points k) (λ n. entries points (row k (3 + n))) refl (rows-more points k) (k - 2) x (omega (arith, length-is points k)) in
       let m = 3 + a .part in

@@ -4,7 +4,7 @@ ghost use mathlib.Core.List.{map};
 ghost use Prim.Native.Nat.{_*_, _^_, _≤_};
 ghost use Rattle.lists.specs.Lists.{range, each};
 ghost use Rattle.layout.specs.Layout.{table, row, entries, start, end, tablebaseLength};
-ghost use Rattle.sizes.specs.Binomial.{BinomialTable};
+ghost use Rattle.sizes.specs.Inner.Binomial.{BinomialTable};
 
 // The entries of the first n tables of m of the mover's stones.
 fn row(binomials: &[u32; 625], points: usize, m: usize, n: usize) -> usize

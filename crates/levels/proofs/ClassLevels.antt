@@ -17,7 +17,7 @@ use Rattle.game.specs.Game.{Seed, live, ends, drawn, drawEntry, voidEntry, Dept
 use Rattle.game.proofs.Depths.{NotBefore, before-or-not}
 use Rattle.game.proofs.Tables.{Seeded}
 use Rattle.game.proofs.Levels.{Fresh, within-same}
-use Rattle.outcomes.specs.Places.{place, entryAt, successorEntry}
+use Rattle.outcomes.specs.Places.{placeOf, entryAt, successorEntry}
 use Rattle.outcomes.specs.Whole.{next}
 use Rattle.outcomes.specs.Pair.{Pair, pairSeed, LowerValid}
 use Rattle.outcomes.specs.Filled.{BothTables, Kept}
@@ -28,13 +28,13 @@ use Rattle.outcomes.proofs.PairLevels.{Amid, pair-live, live-pair, pair-ground,
 use Rattle.symmetry.specs.Symmetries.{image}
 use Rattle.game.proofs.Maps.{Image}
 use Rattle.game.proofs.Mapped.{symmetric-same}
-use Rattle.invariance.specs.Used.{LowerSymmetric}
+use Rattle.invariance.specs.Symmetric.{LowerSymmetric}
 use Rattle.invariance.proofs.Groups.{Group}
 use Rattle.imaging.proofs.Picked.{Picks}
 use Rattle.sweeping.specs.declared.tables.Table.{Table}
-use Rattle.sweeping.specs.Levels.{Fits}
+use Rattle.sweeping.specs.Inner.Levels.{Fits}
 use Rattle.levels.proofs.Sides.{Side, sizes}
-use Rattle.sweeping.specs.Marked.{levelMarks, judgedFirst, levelByClasses}
+use Rattle.sweeping.specs.Inner.Marked.{levelMarks, judgedFirst, levelByClasses}
 use Rattle.levels.proofs.Views.{opened, opened-mark, opened-other, view}
 use Rattle.levels.proofs.Sources.{MarkedIn, MarkedPart}
 use Rattle.levels.proofs.Judging.{mapped, SymmetricTable, Judging, no-marks, all-done}
@@ -104,7 +104,7 @@ module _ (rings k m o : ℕ) (pair : Pair rings k m o) (before : List ℕ) (vali
         clean-is : view rings k clean q ≡ successorEntry rings k clean q
         clean-is = view-is clean (seen-free clean kept own-valid) q s
 
-        mark : MarkedIn (t .own .start) (size (8 * rings) (t .mover) (t .opponent)) clean marks-of (place rings k q)
+        mark : MarkedIn (t .own .start) (size (8 * rings) (t .mover) (t .opponent)) clean marks-of (placeOf rings k q)
             → opened (entryAt rings k marks-of q) ≡ opened (entryAt rings k clean q)
         mark (inl e) = ap (λ (v : ℕ). opened v) (entry-place rings k marks-of q ∙ e ∙ sym (entry-place rings k clean q))
         mark (inr e) =
@@ -117,7 +117,7 @@ module _ (rings k m o : ℕ) (pair : Pair rings k m o) (before : List ℕ) (vali
             ap (λ (v : ℕ). opened v) (entry-two rings k marks-of q l ∙ sym (entry-two rings k clean q l)) ∙ clean-is
         at false f =
             let l = ltb-false (count 1 q) 3 f in
-            ap (λ (v : ℕ). opened v) (entry-three rings k marks-of q l) ∙ mark (the-marks .at (place rings k q))
+            ap (λ (v : ℕ). opened v) (entry-three rings k marks-of q l) ∙ mark (the-marks .at (placeOf rings k q))
             ∙ ap (λ (v : ℕ). opened v) (sym (entry-three rings k clean q l)) ∙ clean-is
 
     -- what holds once the marks are made
@@ -130,9 +130,9 @@ module _ (rings k m o : ℕ) (pair : Pair rings k m o) (before : List ℕ) (vali
           (λ b. successorEntry rings k clean b) (view rings k marks-of) marks-view D w;
       symmetric = symmetric-same (next rings) (λ c. pairSeed rings k m o before c) (OnPair rings m o) maps (λ g c. image rings g c)
           (mapped rings k m o pair before valid maps group mirrored) (λ b. successorEntry rings k clean b) (view rings k marks-of) marks-view symmetric;
-      marks = λ q i v. (whose q i v (the-marks .at (place rings k q)), omega arith);
+      marks = λ q i v. (whose q i v (the-marks .at (placeOf rings k q)), omega arith);
       pending = λ p i d. go p i (found-image rings k m o pair before valid maps group mirrored picked picks x y t same side level pos low clean
-          fits D w symmetric p i d) (the-marks .at (place rings k p));
+          fits D w symmetric p i d) (the-marks .at (placeOf rings k p));
     }
       where
         rest : (j : ℕ) → ((a b r : ℕ) → BothTables m o a b → r < size (8 * rings) a b → start (8 * rings) k a b + r ≡ j → ⊥)
@@ -143,7 +143,7 @@ module _ (rings k m o : ℕ) (pair : Pair rings k m o) (before : List ℕ) (vali
             (ap (λ (s : ℕ). s + r) (sym (side .located .start-is)) ∙ q))
 
         whose : (q : List ℕ) → InPair rings m o q → entryAt rings k marks-of q ≡ voidEntry
-            → MarkedIn (t .own .start) (size (8 * rings) (t .mover) (t .opponent)) clean marks-of (place rings k q) → InTable rings x y q
+            → MarkedIn (t .own .start) (size (8 * rings) (t .mover) (t .opponent)) clean marks-of (placeOf rings k q) → InTable rings x y q
         whose q i v (inl e) = absurd (own-valid q i (entry-place rings k clean q ∙ sym e ∙ sym (entry-place rings k marks-of q) ∙ v))
         whose q i v (inr (a, b, (r, h, f))) =
             let l : r < size (8 * rings) x y = omega (arith, sizes rings k m o pair x y t same side) in
@@ -154,7 +154,7 @@ module _ (rings k m o : ℕ) (pair : Pair rings k m o) (before : List ℕ) (vali
 
         go : (p : List ℕ) → InTable rings x y p → (successorEntry rings k clean p ≡ level)
             ⊎ ((g : ℕ) × (g < maps) × (entryAt rings k marks-of (image rings g p) ≡ voidEntry))
-            → MarkedIn (t .own .start) (size (8 * rings) (t .mover) (t .opponent)) clean marks-of (place rings k p)
+            → MarkedIn (t .own .start) (size (8 * rings) (t .mover) (t .opponent)) clean marks-of (placeOf rings k p)
             → (entryAt rings k marks-of p ≡ level)
             ⊎ ((q : List ℕ) × Image (next rings) (λ c. pairSeed rings k m o before c) (OnPair rings m o) maps (λ g c. image rings g c) p q
             × (entryAt rings k marks-of q ≡ voidEntry))

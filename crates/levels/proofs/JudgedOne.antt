@@ -17,7 +17,7 @@ use Rattle.ranking.specs.Unrank.{unrank}
 use Rattle.game.specs.Game.{live, drawEntry, voidEntry, Depth}
 use Rattle.game.specs.Judgement.{hit}
 use Rattle.game.proofs.Levels.{within-fewer, within-same}
-use Rattle.outcomes.specs.Places.{place, entryAt, successorEntry}
+use Rattle.outcomes.specs.Places.{placeOf, entryAt, successorEntry}
 use Rattle.outcomes.specs.Whole.{next}
 use Rattle.outcomes.specs.Pair.{Pair, pairSeed, LowerValid}
 use Rattle.outcomes.specs.Filled.{BothTables, Kept}
@@ -30,15 +30,15 @@ use Rattle.symmetry.specs.Symmetries.{symmetries, image}
 use Rattle.game.proofs.Maps.{Maps, Image}
 use Rattle.game.proofs.Mapped.{image-self, image-sym, image-trans, image-depth, symmetric-same}
 use Rattle.game.proofs.Classes.{depth-hit-now, written, written-symmetric}
-use Rattle.invariance.specs.Used.{LowerSymmetric}
+use Rattle.invariance.specs.Symmetric.{LowerSymmetric}
 use Rattle.invariance.proofs.Groups.{Group}
 use Rattle.invariance.proofs.PairMaps.{pair-maps}
 use Rattle.sweeping.specs.declared.tables.Table.{Table}
-use Rattle.sweeping.specs.Levels.{ranked, judged}
+use Rattle.sweeping.specs.Inner.Levels.{boardAt, judged}
 use Rattle.levels.proofs.Sides.{Side, ranked-is, place-is, entry-is, hit-is}
-use Rattle.imaging.specs.Images.{imagesWritten}
+use Rattle.imaging.specs.Inner.Images.{imagesWritten}
 use Rattle.imaging.proofs.OnSets.{images-length}
-use Rattle.sweeping.specs.Marked.{isMarked, judgedClass, judgedFirst}
+use Rattle.sweeping.specs.Inner.Marked.{isMarked, judgedClass, judgedFirst}
 use Rattle.levels.proofs.Views.{opened, opened-mark, opened-other, view, hit-view}
 use Rattle.levels.proofs.Written.{seen-elsewhere, same-on, apart, written-kept, written-others, written-images}
 use Rattle.levels.proofs.Judging.{image-own, Judging}
@@ -77,7 +77,7 @@ module _ (rings k m o : ℕ) (pair : Pair rings k m o) (before : List ℕ) (vali
       marked-is = ap (λ (e : ℕ). eqb e voidEntry) (entry-is rings k m o pair x y t same side n h now)
 
       -- what the code reads of the successors
-      seen-is : hit (next rings) (judged rings t same now) level (ranked rings t same n)
+      seen-is : hit (next rings) (judged rings t same now) level (boardAt rings t same n)
           ≡ hit (next rings) (view rings k now) level (unrank (8 * rings) x y n)
       seen-is = hit-is rings k m o pair x y t same side n h now level ∙ sym (hit-view rings k level (omega arith) now (unrank (8 * rings) x y n))
 
@@ -111,32 +111,32 @@ module _ (rings k m o : ℕ) (pair : Pair rings k m o) (before : List ℕ) (vali
 
         -- missed: open again
         module _ (miss : hit (next rings) (view rings k now) level (unrank (8 * rings) x y n) ≡ false) where
-          reset-here : entryAt rings k (set now (place rings k (unrank (8 * rings) x y n)) drawEntry) (unrank (8 * rings) x y n) ≡ drawEntry
+          reset-here : entryAt rings k (set now (placeOf rings k (unrank (8 * rings) x y n)) drawEntry) (unrank (8 * rings) x y n) ≡ drawEntry
           reset-here =
               written-here rings k now (unrank (8 * rings) x y n) drawEntry
               (omega (arith, w .room, place-within rings k (unrank (8 * rings) x y n) (stands-own rings k m o pair (unrank (8 * rings) x y n) own-b)))
 
           reset-seen : (q : List ℕ) → OnPair rings m o q → (q ≡ unrank (8 * rings) x y n → ⊥)
-              → successorEntry rings k (set now (place rings k (unrank (8 * rings) x y n)) drawEntry) q ≡ successorEntry rings k now q
+              → successorEntry rings k (set now (placeOf rings k (unrank (8 * rings) x y n)) drawEntry) q ≡ successorEntry rings k now q
           reset-seen q s ne = seen-elsewhere rings k m o pair now (unrank (8 * rings) x y n) drawEntry own-b q s ne
 
           reset-entry : (q : List ℕ) → InPair rings m o q → (q ≡ unrank (8 * rings) x y n → ⊥)
-              → entryAt rings k (set now (place rings k (unrank (8 * rings) x y n)) drawEntry) q ≡ entryAt rings k now q
+              → entryAt rings k (set now (placeOf rings k (unrank (8 * rings) x y n)) drawEntry) q ≡ entryAt rings k now q
           reset-entry q i ne =
-              sym (pair-entry rings k m o pair before valid (set now (place rings k (unrank (8 * rings) x y n)) drawEntry) q i)
+              sym (pair-entry rings k m o pair before valid (set now (placeOf rings k (unrank (8 * rings) x y n)) drawEntry) q i)
               ∙ reset-seen q (on-pair i) ne ∙ pair-entry rings k m o pair before valid now q i
 
           reset-view : (q : List ℕ) → OnPair rings m o q
-              → view rings k (set now (place rings k (unrank (8 * rings) x y n)) drawEntry) q ≡ view rings k now q
+              → view rings k (set now (placeOf rings k (unrank (8 * rings) x y n)) drawEntry) q ≡ view rings k now q
           reset-view q s = go (same-on rings k m o pair (unrank (8 * rings) x y n) q own-b s)
             where
               go : (q ≡ unrank (8 * rings) x y n) ⊎ (q ≡ unrank (8 * rings) x y n → ⊥)
-                  → view rings k (set now (place rings k (unrank (8 * rings) x y n)) drawEntry) q ≡ view rings k now q
+                  → view rings k (set now (placeOf rings k (unrank (8 * rings) x y n)) drawEntry) q ≡ view rings k now q
               go (inr ne) = ap (λ (e : ℕ). opened e) (reset-seen q s ne)
               go (inl e) =
-                  ap (view rings k (set now (place rings k (unrank (8 * rings) x y n)) drawEntry)) e
+                  ap (view rings k (set now (placeOf rings k (unrank (8 * rings) x y n)) drawEntry)) e
                   ∙ ap (λ (v : ℕ). opened v)
-                  (pair-entry rings k m o pair before valid (set now (place rings k (unrank (8 * rings) x y n)) drawEntry) (unrank (8 * rings) x y n) own-b
+                  (pair-entry rings k m o pair before valid (set now (placeOf rings k (unrank (8 * rings) x y n)) drawEntry) (unrank (8 * rings) x y n) own-b
                   ∙ reset-here)
                   ∙ opened-other drawEntry (λ z. omega arith) ∙ sym open-b ∙ ap (view rings k now) (sym e)
 
@@ -146,31 +146,31 @@ module _ (rings k m o : ℕ) (pair : Pair rings k m o) (before : List ℕ) (vali
               clash (depth-hit-now (next rings) (λ c. pairSeed rings k m o before c) (OnPair rings m o) (pair-ground rings k m o pair before valid) level low
               (view rings k now) D (w .amid) (unrank (8 * rings) x y n) on-b live-b d) miss
 
-          missed : JudgedTo (suc n) (set now (place rings k (unrank (8 * rings) x y n)) drawEntry)
+          missed : JudgedTo (suc n) (set now (placeOf rings k (unrank (8 * rings) x y n)) drawEntry)
           missed = record {
-            kept = kept-then rings k (BothTables m o) before now (set now (place rings k (unrank (8 * rings) x y n)) drawEntry) (w .kept)
+            kept = kept-then rings k (BothTables m o) before now (set now (placeOf rings k (unrank (8 * rings) x y n)) drawEntry) (w .kept)
                 (subst (λ (j : ℕ). Kept rings k (BothTables m o) now (set now j drawEntry)) (sym (place-unrank rings k x y n h))
                 (kept-set rings k (BothTables m o) now x y n drawEntry (side .both) h));
-            room = length-set now (place rings k (unrank (8 * rings) x y n)) drawEntry ∙ w .room;
+            room = length-set now (placeOf rings k (unrank (8 * rings) x y n)) drawEntry ∙ w .room;
             amid = within-same (next rings) (λ c. pairSeed rings k m o before c) (OnPair rings m o) (pair-ground rings k m o pair before valid) level low
-                (view rings k now) (view rings k (set now (place rings k (unrank (8 * rings) x y n)) drawEntry)) reset-view D (w .amid);
+                (view rings k now) (view rings k (set now (placeOf rings k (unrank (8 * rings) x y n)) drawEntry)) reset-view D (w .amid);
             symmetric = symmetric-same (next rings) (λ c. pairSeed rings k m o before c) (OnPair rings m o) maps (λ g c. image rings g c) mapped
                 (view rings k now)
-                (view rings k (set now (place rings k (unrank (8 * rings) x y n)) drawEntry)) reset-view (w .symmetric);
+                (view rings k (set now (placeOf rings k (unrank (8 * rings) x y n)) drawEntry)) reset-view (w .symmetric);
             marks = λ q i v. go q i v (same-on rings k m o pair (unrank (8 * rings) x y n) q own-b (on-pair i));
             pending = λ p i d. still p i d (w .pending p i d);
           }
             where
-              go : (q : List ℕ) → InPair rings m o q → entryAt rings k (set now (place rings k (unrank (8 * rings) x y n)) drawEntry) q ≡ voidEntry
+              go : (q : List ℕ) → InPair rings m o q → entryAt rings k (set now (placeOf rings k (unrank (8 * rings) x y n)) drawEntry) q ≡ voidEntry
                   → (q ≡ unrank (8 * rings) x y n) ⊎ (q ≡ unrank (8 * rings) x y n → ⊥) → InTable rings x y q × (suc n ≤ rank q)
               go q i v (inl e) =
-                  absurd (omega (arith, sym v ∙ ap (entryAt rings k (set now (place rings k (unrank (8 * rings) x y n)) drawEntry)) e ∙ reset-here))
+                  absurd (omega (arith, sym v ∙ ap (entryAt rings k (set now (placeOf rings k (unrank (8 * rings) x y n)) drawEntry)) e ∙ reset-here))
               go q i v (inr ne) = let a = w .marks q i (sym (reset-entry q i ne) ∙ v) in (a .0, later q (a .0) (a .1) ne)
 
               still : (p : List ℕ) → InTable rings x y p → DepthIs level p
                   → (entryAt rings k now p ≡ level) ⊎ ((q : List ℕ) × Of p q × (entryAt rings k now q ≡ voidEntry))
-                  → (entryAt rings k (set now (place rings k (unrank (8 * rings) x y n)) drawEntry) p ≡ level)
-                  ⊎ ((q : List ℕ) × Of p q × (entryAt rings k (set now (place rings k (unrank (8 * rings) x y n)) drawEntry) q ≡ voidEntry))
+                  → (entryAt rings k (set now (placeOf rings k (unrank (8 * rings) x y n)) drawEntry) p ≡ level)
+                  ⊎ ((q : List ℕ) × Of p q × (entryAt rings k (set now (placeOf rings k (unrank (8 * rings) x y n)) drawEntry) q ≡ voidEntry))
               still p i d (inl v) =
                   inl (reset-entry p (pair-table (side .both) i) (λ e. omega (arith, sym v ∙ ap (entryAt rings k now) e ∙ mark)) ∙ v)
               still p i d (inr (q, f, v)) =

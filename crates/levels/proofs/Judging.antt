@@ -19,7 +19,7 @@ use Rattle.outcomes.proofs.Ranked.{InTable, rank-in}
 use Rattle.outcomes.proofs.PairGame.{OnPair, InPair, pair-table}
 use Rattle.symmetry.specs.Symmetries.{image}
 use Rattle.game.proofs.Maps.{Maps, Image, Symmetric}
-use Rattle.invariance.specs.Used.{LowerSymmetric}
+use Rattle.invariance.specs.Symmetric.{LowerSymmetric}
 use Rattle.invariance.proofs.Groups.{Group}
 use Rattle.invariance.proofs.PairMaps.{pair-maps, image-table}
 use Rattle.sweeping.specs.declared.tables.Table.{Table}

@@ -14,9 +14,9 @@ use Rattle.game.specs.Game.{drawEntry, voidEntry}
 use Rattle.outcomes.proofs.Ranked.{InTable, rank-in, unrank-of}
 use Rattle.sweeping.specs.declared.tables.Table.{Table}
 use Rattle.sweeping.specs.declared.marks.Source.{Source}
-use Rattle.sweeping.specs.Levels.{Fits}
-use Rattle.sweeping.proofs.Sources.{same-before, lower-before}
-use Rattle.sweeping.specs.Marked.{sameSource, lowerSource, isSource, markedFrom, levelMarks}
+use Rattle.sweeping.specs.Inner.Levels.{Fits}
+use Rattle.sweeping.proofs.Sources.{same-leads, lower-leads}
+use Rattle.sweeping.specs.Inner.Marked.{sameSource, lowerSource, isSource, markedFrom, levelMarks}
 use Rattle.levels.proofs.Sources.{MarkedIn, MarkedPart, part-then, closed-still, from-marked, source-same, from-closed}
 
 module _ (rings : ℕ) (t : Table) (same level maps : ℕ) (picked : List ℕ → Bool) (low : level < voidEntry) (three : 3 ≤ t .opponent) (clean : List ℕ)
@@ -29,13 +29,13 @@ module _ (rings : ℕ) (t : Table) (same level maps : ℕ) (picked : List ℕ �
 
   once-marked : MarkedPart (t .own .start) own clean once
   once-marked =
-      from-marked rings t (sameSource t same) false (same-before t same) (level - 1) (omega arith) picked clean
+      from-marked rings t (sameSource t same) false (same-leads t same) (level - 1) (omega arith) picked clean
       (size (8 * rings) (t .opponent) (t .mover)) (omega arith)
 
   rest-marked : MarkedPart (t .own .start) own once (levelMarks rings t same level maps picked clean)
   unfolding levelMarks
   rest-marked =
-      from-marked rings t (lowerSource t) true (lower-before t three) (level - 1) (omega arith) picked once
+      from-marked rings t (lowerSource t) true (lower-leads t three) (level - 1) (omega arith) picked once
       (size (8 * rings) (t .opponent - 1) (t .mover)) (omega arith)
 
   pub all-marked : MarkedPart (t .own .start) own clean (levelMarks rings t same level maps picked clean)
@@ -61,7 +61,7 @@ module _ (rings : ℕ) (t : Table) (same level maps : ℕ) (picked : List ℕ �
     same-found q j f c e =
         let back = sym (unrank-of rings (t .opponent) (t .mover) q j) in
         closed-marked (closed-still rest-marked (t .own .start + rank p)
-        (from-closed rings t (sameSource t same) false (same-before t same) (level - 1) (omega arith) picked clean
+        (from-closed rings t (sameSource t same) false (same-leads t same) (level - 1) (omega arith) picked clean
         (size (8 * rings) (t .opponent) (t .mover)) (omega arith)
         (rank q) (rank-in rings (t .opponent) (t .mover) q j) e (subst (λ (b : List ℕ). picked b ≡ true) back c) p
         (subst (λ (b : List ℕ). List·Memᴰ p (predecessors false rings b)) back f) fits-in))
@@ -72,10 +72,10 @@ module _ (rings : ℕ) (t : Table) (same level maps : ℕ) (picked : List ℕ �
     unfolding levelMarks
     lower-found q j f c e =
         let back = sym (unrank-of rings (t .opponent - 1) (t .mover) q j) in
-        closed-marked (from-closed rings t (lowerSource t) true (lower-before t three) (level - 1) (omega arith) picked once
+        closed-marked (from-closed rings t (lowerSource t) true (lower-leads t three) (level - 1) (omega arith) picked once
         (size (8 * rings) (t .opponent - 1) (t .mover))
         (omega arith) (rank q) (rank-in rings (t .opponent - 1) (t .mover) q j)
-        (source-same rings t (lowerSource t) true (lower-before t three) (level - 1) (omega arith) picked (t .own .start) own clean once once-marked
+        (source-same rings t (lowerSource t) true (lower-leads t three) (level - 1) (omega arith) picked (t .own .start) own clean once once-marked
         (rank q) ∙ e)
         (subst (λ (b : List ℕ). picked b ≡ true) back c) p
         (subst (λ (b : List ℕ). List·Memᴰ p (predecessors true rings b)) back f)

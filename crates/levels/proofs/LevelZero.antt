@@ -18,7 +18,7 @@ use Rattle.game.specs.Game.{drawEntry}
 use Rattle.game.specs.Judgement.{hit}
 use Rattle.game.proofs.Hits.{hit-zero}
 use Rattle.game.proofs.Levels.{within-fewer}
-use Rattle.outcomes.specs.Places.{place, entryAt, successorEntry}
+use Rattle.outcomes.specs.Places.{placeOf, entryAt, successorEntry}
 use Rattle.outcomes.specs.Whole.{next}
 use Rattle.outcomes.specs.Pair.{Pair, pairSeed, LowerValid}
 use Rattle.outcomes.specs.Filled.{BothTables, Kept}
@@ -27,7 +27,7 @@ use Rattle.outcomes.proofs.PairGame.{OnPair}
 use Rattle.outcomes.proofs.Entries.{kept-same, kept-set, kept-then}
 use Rattle.outcomes.proofs.PairLevels.{Amid, visited}
 use Rattle.sweeping.specs.declared.tables.Table.{Table}
-use Rattle.sweeping.specs.Levels.{isOpen, ranked, blockedPlace, blockedFirst}
+use Rattle.sweeping.specs.Inner.Levels.{isOpen, boardAt, blockedPlace, blockedFirst}
 use Rattle.levels.proofs.Sides.{Side, ranked-is, board-in, place-is, open-is}
 
 module _ (rings k m o : ℕ) (pair : Pair rings k m o) (x y : ℕ) (t : Table) (same : ℕ) (side : Side rings k m o x y t same) where
@@ -36,7 +36,7 @@ module _ (rings k m o : ℕ) (pair : Pair rings k m o) (x y : ℕ) (t : Table) (
     blocked-is : blockedPlace rings t now r
         ≡ elim (eqb (entryAt rings k now (unrank (8 * rings) x y r)) drawEntry && hit (next rings) (λ b. successorEntry rings k now b) 0
         (unrank (8 * rings) x y r)) [
-          | true ↦ set now (place rings k (unrank (8 * rings) x y r)) 0
+          | true ↦ set now (placeOf rings k (unrank (8 * rings) x y r)) 0
           | false ↦ now
         ]
     unfolding blockedPlace
@@ -49,7 +49,7 @@ module _ (rings k m o : ℕ) (pair : Pair rings k m o) (x y : ℕ) (t : Table) (
 
     place-kept : Kept rings k (BothTables m o) now (blockedPlace rings t now r)
     unfolding blockedPlace
-    place-kept = go (isOpen t now r && isEmpty (next rings (ranked rings t same r)))
+    place-kept = go (isOpen t now r && isEmpty (next rings (boardAt rings t same r)))
       where
         go : (b : Bool) → Kept rings k (BothTables m o) now (elim b [ true ↦ set now (t .own .start + r) 0 | false ↦ now ])
         go true = subst (λ (s : ℕ). Kept rings k (BothTables m o) now (set now (s + r) 0)) (sym (side .located .start-is))

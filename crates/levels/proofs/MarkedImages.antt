@@ -15,10 +15,10 @@ use Rattle.layout.specs.Layout.{start}
 use Rattle.rules.specs.Ply.{removable}
 use Rattle.rules.proofs.Listed.{successor-of, removable-takes}
 use Rattle.rules.proofs.Leads.{ply-leads}
-use Rattle.rules.proofs.Found.{Found, found}
+use Rattle.rules.proofs.Found.{Predecessor, found}
 use Rattle.game.specs.Game.{drawEntry, voidEntry, Depth}
 use Rattle.game.proofs.Levels.{Fresh, Within}
-use Rattle.outcomes.specs.Places.{place, entryAt, successorEntry}
+use Rattle.outcomes.specs.Places.{placeOf, entryAt, successorEntry}
 use Rattle.outcomes.specs.Whole.{next}
 use Rattle.outcomes.specs.Pair.{Pair, pairSeed, LowerValid}
 use Rattle.outcomes.proofs.Ranked.{InTable, place-at}
@@ -27,15 +27,15 @@ use Rattle.outcomes.proofs.Entries.{entry-place, entry-rank, entry-two, entry-t
 use Rattle.outcomes.proofs.PairLevels.{Amid, pair-live, pair-ground, pair-entry}
 use Rattle.symmetry.specs.Symmetries.{image}
 use Rattle.game.proofs.Mapped.{sources-image, map-depth}
-use Rattle.invariance.specs.Used.{LowerSymmetric}
+use Rattle.invariance.specs.Symmetric.{LowerSymmetric}
 use Rattle.invariance.proofs.Groups.{Group}
 use Rattle.invariance.proofs.PairMaps.{image-table}
 use Rattle.imaging.proofs.Picked.{Picks}
 use Rattle.sweeping.specs.declared.tables.Table.{Table}
-use Rattle.sweeping.specs.Levels.{Fits}
+use Rattle.sweeping.specs.Inner.Levels.{Fits}
 use Rattle.sweeping.proofs.Probed.{lower-starts}
 use Rattle.levels.proofs.Sides.{Side}
-use Rattle.sweeping.specs.Marked.{sameSource, lowerSource, isSource, levelMarks}
+use Rattle.sweeping.specs.Inner.Marked.{sameSource, lowerSource, isSource, levelMarks}
 use Rattle.levels.proofs.Judging.{mapped, SymmetricTable}
 use Rattle.levels.proofs.LevelMarks.{same-found, lower-found, source-stored, source-two}
 
@@ -58,7 +58,7 @@ module _ (rings k m o : ℕ) (pair : Pair rings k m o) (before : List ℕ) (vali
     opponent = i .opponent ∙ sym (side .located .opponent-is);
   }
 
-  own-place : (p : List ℕ) → InTable rings x y p → t .own .start + rank p ≡ place rings k p
+  own-place : (p : List ℕ) → InTable rings x y p → t .own .start + rank p ≡ placeOf rings k p
   own-place p i = ap (λ (s : ℕ). s + rank p) (side .located .start-is) ∙ sym (place-at rings k x y p i)
 
   -- an open board of the table with a picked successor of the depth below is marked
@@ -99,7 +99,7 @@ module _ (rings k m o : ℕ) (pair : Pair rings k m o) (before : List ℕ) (vali
             (entry-of (t .opponent - 1) (t .lower .start) e h (side .located .lower-start-is ∙ lower-starts (8 * rings) k x y (omega arith)
             ∙ ap (λ (n : ℕ). start (8 * rings) k (n - 1) x) (sym z)))
 
-        go : Found rings p q → getD marks-of (t .own .start + rank p) 0 ≡ voidEntry
+        go : Predecessor rings p q → getD marks-of (t .own .start + rank p) 0 ≡ voidEntry
         go (inl (f, e)) =
             let u : count 1 q ≡ t .opponent = e ∙ in-own p i .opponent in
             same-found rings t same level maps picked low three clean fits p (in-own p i) own-blank q (whose (t .opponent) u) f chosen

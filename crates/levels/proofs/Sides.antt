@@ -11,7 +11,7 @@ use Rattle.layout.specs.Layout.{start}
 use Rattle.game.specs.Game.{drawEntry}
 use Rattle.game.specs.Judgement.{hit, decided}
 use Rattle.game.proofs.Agree.{hit-agree, decided-agree}
-use Rattle.outcomes.specs.Places.{place, entryAt, successorEntry}
+use Rattle.outcomes.specs.Places.{placeOf, entryAt, successorEntry}
 use Rattle.outcomes.specs.Whole.{next}
 use Rattle.outcomes.specs.Pair.{Pair}
 use Rattle.outcomes.specs.Filled.{BothTables}
@@ -19,8 +19,8 @@ use Rattle.outcomes.proofs.Ranked.{unrank-in, place-unrank}
 use Rattle.outcomes.proofs.PairGame.{InPair, pair-table}
 use Rattle.outcomes.proofs.Entries.{entry-unrank}
 use Rattle.sweeping.specs.declared.tables.Table.{Table}
-use Rattle.sweeping.specs.Tables.{Located}
-use Rattle.sweeping.specs.Levels.{isOpen, ranked, judged, openDecided}
+use Rattle.sweeping.specs.Inner.Tables.{Located}
+use Rattle.sweeping.specs.Inner.Levels.{isOpen, boardAt, judged, openDecided}
 use Rattle.sweeping.proofs.Probed.{probed}
 
 -- one of the tables of a pair, and where the other starts
@@ -34,7 +34,7 @@ module _ (rings k m o : ℕ) (pair : Pair rings k m o) (x y : ℕ) (t : Table) (
   pub sizes : size (8 * rings) (t .mover) (t .opponent) ≡ size (8 * rings) x y
   sizes = ap₂ (size (8 * rings)) (side .located .mover-is) (side .located .opponent-is)
 
-  pub ranked-is : (r : ℕ) → ranked rings t same r ≡ unrank (8 * rings) x y r
+  pub ranked-is : (r : ℕ) → boardAt rings t same r ≡ unrank (8 * rings) x y r
   ranked-is r = ap₂ (λ (u v : ℕ). unrank (8 * rings) u v r) (side .located .mover-is) (side .located .opponent-is)
 
   -- the position of rank r: its board, its place and its entry
@@ -42,7 +42,7 @@ module _ (rings k m o : ℕ) (pair : Pair rings k m o) (x y : ℕ) (t : Table) (
     pub board-in : InPair rings m o (unrank (8 * rings) x y r)
     board-in = pair-table (side .both) (unrank-in rings x y r h)
 
-    pub place-is : t .own .start + r ≡ place rings k (unrank (8 * rings) x y r)
+    pub place-is : t .own .start + r ≡ placeOf rings k (unrank (8 * rings) x y r)
     place-is = ap (λ (s : ℕ). s + r) (side .located .start-is) ∙ sym (place-unrank rings k x y r h)
 
     module _ (now : List ℕ) where
@@ -59,7 +59,7 @@ module _ (rings k m o : ℕ) (pair : Pair rings k m o) (x y : ℕ) (t : Table) (
           rw (side .same-is, side .located .lower-start-is, side .located .opponent-is)
           (probed rings k x y (pair .small) (side .low) (unrank (8 * rings) x y r) (unrank-in rings x y r h) now q i)
 
-      pub hit-is : (n : ℕ) → hit (next rings) (judged rings t same now) n (ranked rings t same r)
+      pub hit-is : (n : ℕ) → hit (next rings) (judged rings t same now) n (boardAt rings t same r)
           ≡ hit (next rings) (λ b. successorEntry rings k now b) n (unrank (8 * rings) x y r)
       hit-is n =
           ap (hit (next rings) (judged rings t same now) n) (ranked-is r)

@@ -19,11 +19,11 @@ use Rattle.rules.specs.Predecessors.{predecessors}
 use Rattle.rules.proofs.Found.{predecessor-of}
 use Rattle.game.specs.Game.{drawEntry, voidEntry}
 use Rattle.outcomes.proofs.Ranked.{InTable, unrank-in, rank-in}
-use Rattle.marking.specs.Marks.{marked, places}
+use Rattle.marking.specs.Inner.Marks.{marked, places}
 use Rattle.marking.proofs.Marks.{marked-length, marked-at, marked-closed}
 use Rattle.sweeping.specs.declared.tables.Table.{Table}
 use Rattle.sweeping.specs.declared.marks.Source.{Source}
-use Rattle.sweeping.specs.Marked.{Before, isSource, goneBack, markedPlace, markedFrom}
+use Rattle.sweeping.specs.Inner.Marked.{LeadsTo, isSource, goneBack, markedPlace, markedFrom}
 
 -- an entry is as it was, or a mark in place of draw at one of n places
 abbrev pub MarkedIn : ℕ → ℕ → List ℕ → List ℕ → ℕ → Type 0
@@ -54,7 +54,7 @@ closed-still {start} {n} {a} {b} w j c d = go (w .at j)
     go (inl e) = c (sym e ∙ d)
     go (inr e) = c (e .0)
 
-module _ (rings : ℕ) (t : Table) (s : Source) (capture : Bool) (leads : Before t s capture) (depth : ℕ) (low : depth < voidEntry)
+module _ (rings : ℕ) (t : Table) (s : Source) (capture : Bool) (leads : LeadsTo t s capture) (depth : ℕ) (low : depth < voidEntry)
     (picked : List ℕ → Bool) where
   abbrev own : ℕ
   own = size (8 * rings) (t .mover) (t .opponent)

@@ -14,37 +14,37 @@ use Rattle.lists.proofs.Tests.{clash}
 use Rattle.board.specs.Board.{count}
 use Rattle.ranking.specs.Rank.{rank}
 use Rattle.layout.specs.Layout.{start, tablebaseLength}
-use Rattle.outcomes.specs.Places.{place, entryAt, successorEntry}
+use Rattle.outcomes.specs.Places.{placeOf, entryAt, successorEntry}
 use Rattle.outcomes.specs.Pair.{Pair, inPair}
 use Rattle.outcomes.specs.Filled.{BothTables, Kept}
 use Rattle.outcomes.proofs.Boards.{place-within}
 use Rattle.outcomes.proofs.Ranked.{InTable, place-at, rank-in, one-board}
-use Rattle.outcomes.proofs.PairGame.{OnPair, InPair, in-pair, pair-table, Reached, of-pair, two-left, below, reached, stands, stands-own}
+use Rattle.outcomes.proofs.PairGame.{OnPair, InPair, in-pair, pair-table, PairReached, of-pair, two-left, below, reached, stands, stands-own}
 use Rattle.outcomes.proofs.Entries.{entry-two, entry-three, written-here, written-elsewhere, kept-same, kept-set, kept-then}
 use Rattle.symmetry.specs.Symmetries.{symmetries, image}
 use Rattle.invariance.proofs.PairMaps.{image-table}
-use Rattle.imaging.specs.Images.{imagesWritten}
+use Rattle.imaging.specs.Inner.Images.{imagesWritten}
 use Rattle.imaging.proofs.OnSets.{images-length}
 
 module _ (rings k m o : ℕ) (pair : Pair rings k m o) where
   -- one entry written, seen from the pair's game
   pub seen-elsewhere : (now p : List ℕ) (v : ℕ) → InPair rings m o p → (q : List ℕ) → OnPair rings m o q → (q ≡ p → ⊥)
-      → successorEntry rings k (set now (place rings k p) v) q ≡ successorEntry rings k now q
+      → successorEntry rings k (set now (placeOf rings k p) v) q ≡ successorEntry rings k now q
   seen-elsewhere now p v i q s ne = at (ltb (count 1 q) 3) refl
     where
-      at : (c : Bool) → ltb (count 1 q) 3 ≡ c → successorEntry rings k (set now (place rings k p) v) q ≡ successorEntry rings k now q
-      at true f = let l = ltb-true (count 1 q) 3 f in entry-two rings k (set now (place rings k p) v) q l ∙ sym (entry-two rings k now q l)
+      at : (c : Bool) → ltb (count 1 q) 3 ≡ c → successorEntry rings k (set now (placeOf rings k p) v) q ≡ successorEntry rings k now q
+      at true f = let l = ltb-true (count 1 q) 3 f in entry-two rings k (set now (placeOf rings k p) v) q l ∙ sym (entry-two rings k now q l)
       at false f = let l = ltb-false (count 1 q) 3 f in
-          entry-three rings k (set now (place rings k p) v) q l
+          entry-three rings k (set now (placeOf rings k p) v) q l
           ∙ written-elsewhere rings k now p v q (stands-own rings k m o pair p i) (stands rings k m o pair q s l) ne ∙ sym (entry-three rings k now q l)
 
   -- boards of the pair are told apart by their places
   pub same-board : (p q : List ℕ) → InPair rings m o p → InPair rings m o q → (p ≡ q) ⊎ (p ≡ q → ⊥)
-  same-board p q i j = go (ℕ-discrete (place rings k p) (place rings k q))
+  same-board p q i j = go (ℕ-discrete (placeOf rings k p) (placeOf rings k q))
     where
-      go : Dec (place rings k p ≡ place rings k q) → (p ≡ q) ⊎ (p ≡ q → ⊥)
+      go : Dec (placeOf rings k p ≡ placeOf rings k q) → (p ≡ q) ⊎ (p ≡ q → ⊥)
       go (yes e) = inl (one-board rings k p q (stands-own rings k m o pair p i) (stands-own rings k m o pair q j) e)
-      go (no d) = inr (λ e. d (ap (place rings k) e))
+      go (no d) = inr (λ e. d (ap (placeOf rings k) e))
 
   pub same-on : (p q : List ℕ) → InPair rings m o p → OnPair rings m o q → (q ≡ p) ⊎ (q ≡ p → ⊥)
   same-on p q i s = go (reached q s)
@@ -52,7 +52,7 @@ module _ (rings k m o : ℕ) (pair : Pair rings k m o) where
       out : inPair m o q ≡ false → q ≡ p → ⊥
       out f e = clash (ap (inPair m o) e ∙ in-pair i) f
 
-      go : Reached rings m o q → (q ≡ p) ⊎ (q ≡ p → ⊥)
+      go : PairReached rings m o q → (q ≡ p) ⊎ (q ≡ p → ⊥)
       go (of-pair j) = same-board q p j i
       go (two-left f l) = inr (out f)
       go (below f l) = inr (out f)
@@ -64,7 +64,7 @@ module _ (rings k m o : ℕ) (pair : Pair rings k m o) where
     own : (g : ℕ) → g < symmetries → InPair rings m o (image rings g b)
     own g h = pair-table both (image-of g h)
 
-    place-is : (g : ℕ) → g < symmetries → from + rank (image rings g b) ≡ place rings k (image rings g b)
+    place-is : (g : ℕ) → g < symmetries → from + rank (image rings g b) ≡ placeOf rings k (image rings g b)
     place-is g h = ap (λ (s : ℕ). s + rank (image rings g b)) from-is ∙ sym (place-at rings k x y (image rings g b) (image-of g h))
 
     -- whether a board is one of the first n images
@@ -90,7 +90,7 @@ module _ (rings k m o : ℕ) (pair : Pair rings k m o) where
         out : inPair m o q ≡ false → Among n q → ⊥
         out f (g, l, e) = clash (ap (inPair m o) (sym e) ∙ in-pair (own g (omega arith))) f
 
-        go : Reached rings m o q → Among n q ⊎ (Among n q → ⊥)
+        go : PairReached rings m o q → Among n q ⊎ (Among n q → ⊥)
         go (of-pair i) = among n h q i
         go (two-left f l) = inr (out f)
         go (below f l) = inr (out f)
@@ -99,7 +99,7 @@ module _ (rings k m o : ℕ) (pair : Pair rings k m o) where
       abbrev after : ℕ → List ℕ
       after n = imagesWritten rings from b v now n
 
-      step : (n : ℕ) → n < symmetries → after (suc n) ≡ set (after n) (place rings k (image rings n b)) v
+      step : (n : ℕ) → n < symmetries → after (suc n) ≡ set (after n) (placeOf rings k (image rings n b)) v
       unfolding imagesWritten
       step n h = ap (λ (j : ℕ). set (imagesWritten rings from b v now n) j v) (place-is n h)
 
@@ -134,7 +134,7 @@ module _ (rings k m o : ℕ) (pair : Pair rings k m o) where
             in-q : InPair rings m o q
             in-q = subst (λ (c : List ℕ). InPair rings m o c) e (own g (omega arith))
 
-            fits : place rings k (image rings n b) < length (after n)
+            fits : placeOf rings k (image rings n b) < length (after n)
             fits =
                 let s = stands-own rings k m o pair (image rings n b) (own n h) in
                 omega (arith, images-length rings from b v now n, room, place-within rings k (image rings n b) s)
@@ -143,7 +143,7 @@ module _ (rings k m o : ℕ) (pair : Pair rings k m o) where
                 → entryAt rings k (after (suc n)) q ≡ v
             go (inl f) z r =
                 ap (λ (l : List ℕ). entryAt rings k l q) (step n h)
-                ∙ ap (entryAt rings k (set (after n) (place rings k (image rings n b)) v)) (sym f)
+                ∙ ap (entryAt rings k (set (after n) (placeOf rings k (image rings n b)) v)) (sym f)
                 ∙ written-here rings k (after n) (image rings n b) v fits
             go (inr d) (yes z) r = absurd (d (ap (λ (i : ℕ). image rings i b) (sym z) ∙ e))
             go (inr d) (no z) r =

@@ -10,20 +10,21 @@ use lib.ListN.{length, getD, drop, take, set, length-append, length-take}
 use lib.Seq.{drop-cons, drop-length, sets, take-all, take-suc-set, take-append-le}
 use borrow.Author.Tests.{eq-eqb, ne-eqb}
 use Rattle.lists.proofs.Writing.{Writing, writing-none, writing-all, part-written}
-use Rattle.text.specs.Text.{lineFeed, mostBytes}
-use Rattle.lines.specs.Lines.{mostKept, keep, ended, left, last}
+use Rattle.text.specs.Text.{lineFeed}
+use Rattle.text.specs.Inner.Room.{mostBytes}
+use Rattle.lines.specs.Lines.{mostKept, keepByte, endedLines, left, last}
 use Rattle.lines.specs.Answers.{answerOf, answers}
 
 -- a byte that is kept: in its place, or dropped
-pub keep-room : (l : List ℕ) (n c : ℕ) → n < mostKept → length l ≡ mostKept → take (n + 1) (set l n c) ≡ keep (take n l) c
-unfolding keep
+pub keep-room : (l : List ℕ) (n c : ℕ) → n < mostKept → length l ≡ mostKept → take (n + 1) (set l n c) ≡ keepByte (take n l) c
+unfolding keepByte
 keep-room l n c h e =
     let s : n + 1 ≡ suc n = omega arith in
     ap (λ (k : ℕ). take k (set l n c)) s ∙ take-suc-set l n c (omega arith)
     ∙ sym (take-all mostKept (take n l ++ (c ∷ [])) (omega (arith, length-append (take n l) (c ∷ []), length-take n l)))
 
-pub keep-full : (l : List ℕ) (n c : ℕ) → n ≡ mostKept → length l ≡ mostKept → take n l ≡ keep (take n l) c
-unfolding keep
+pub keep-full : (l : List ℕ) (n c : ℕ) → n ≡ mostKept → length l ≡ mostKept → take n l ≡ keepByte (take n l) c
+unfolding keepByte
 keep-full l n c h e =
     let a : take n l ≡ l = take-all n l (omega arith) in
     a ∙ sym (take-all mostKept l (omega arith))
@@ -31,34 +32,34 @@ keep-full l n c h e =
 
 -- a byte that ends a line, and one that does not
 module _ (kept : List ℕ) (c : ℕ) where
-  pub byte-ends : c ≡ lineFeed → (ended kept (c ∷ []) ≡ kept ∷ []) × (left kept (c ∷ []) ≡ [])
-  unfolding ended left
+  pub byte-ends : c ≡ lineFeed → (endedLines kept (c ∷ []) ≡ kept ∷ []) × (left kept (c ∷ []) ≡ [])
+  unfolding endedLines left
   byte-ends e = (simp (eq-eqb c lineFeed e), simp (eq-eqb c lineFeed e))
 
-  pub byte-kept : (c ≡ lineFeed → ⊥) → (ended kept (c ∷ []) ≡ []) × (left kept (c ∷ []) ≡ keep kept c)
-  unfolding ended left
+  pub byte-kept : (c ≡ lineFeed → ⊥) → (endedLines kept (c ∷ []) ≡ []) × (left kept (c ∷ []) ≡ keepByte kept c)
+  unfolding endedLines left
   byte-kept e = (simp (ne-eqb c lineFeed e), simp (ne-eqb c lineFeed e))
 
 -- a block after a block
-pub ended-append : (kept a b : List ℕ) → ended kept (a ++ b) ≡ ended kept a ++ ended (left kept a) b
-unfolding ended left
+pub ended-append : (kept a b : List ℕ) → endedLines kept (a ++ b) ≡ endedLines kept a ++ endedLines (left kept a) b
+unfolding endedLines left
 ended-append kept [] b = refl
-ended-append kept (c ∷ a) b = go (eqb c lineFeed) (ended-append [] a b) (ended-append (keep kept c) a b)
+ended-append kept (c ∷ a) b = go (eqb c lineFeed) (ended-append [] a b) (ended-append (keepByte kept c) a b)
   where
-    go : (t : Bool) → ended [] (a ++ b) ≡ ended [] a ++ ended (left [] a) b
-        → ended (keep kept c) (a ++ b) ≡ ended (keep kept c) a ++ ended (left (keep kept c) a) b
-        → cond t (kept ∷ ended [] (a ++ b)) (ended (keep kept c) (a ++ b))
-        ≡ cond t (kept ∷ ended [] a) (ended (keep kept c) a) ++ ended (cond t (left [] a) (left (keep kept c) a)) b
+    go : (t : Bool) → endedLines [] (a ++ b) ≡ endedLines [] a ++ endedLines (left [] a) b
+        → endedLines (keepByte kept c) (a ++ b) ≡ endedLines (keepByte kept c) a ++ endedLines (left (keepByte kept c) a) b
+        → cond t (kept ∷ endedLines [] (a ++ b)) (endedLines (keepByte kept c) (a ++ b))
+        ≡ cond t (kept ∷ endedLines [] a) (endedLines (keepByte kept c) a) ++ endedLines (cond t (left [] a) (left (keepByte kept c) a)) b
     go true p q = ap (λ (x : List (List ℕ)). kept ∷ x) p
     go false p q = q
 
 pub left-append : (kept a b : List ℕ) → left kept (a ++ b) ≡ left (left kept a) b
 unfolding left
 left-append kept [] b = refl
-left-append kept (c ∷ a) b = go (eqb c lineFeed) (left-append [] a b) (left-append (keep kept c) a b)
+left-append kept (c ∷ a) b = go (eqb c lineFeed) (left-append [] a b) (left-append (keepByte kept c) a b)
   where
-    go : (t : Bool) → left [] (a ++ b) ≡ left (left [] a) b → left (keep kept c) (a ++ b) ≡ left (left (keep kept c) a) b
-        → cond t (left [] (a ++ b)) (left (keep kept c) (a ++ b)) ≡ left (cond t (left [] a) (left (keep kept c) a)) b
+    go : (t : Bool) → left [] (a ++ b) ≡ left (left [] a) b → left (keepByte kept c) (a ++ b) ≡ left (left (keepByte kept c) a) b
+        → cond t (left [] (a ++ b)) (left (keepByte kept c) (a ++ b)) ≡ left (cond t (left [] a) (left (keepByte kept c) a)) b
     go true p q = p
     go false p q = q
 
@@ -92,17 +93,17 @@ module _ (tablebase : List ℕ) where
   -- a block's loop: what is left to be done makes of the state what is wanted
   pub record Feeding (block kept₀ out₀ : List ℕ) (i : ℕ) (kept out : List ℕ) (used : ℕ) : Type 0 where
     pub rest : left kept (drop i block) ≡ left kept₀ block
-    pub done : Writing out₀ 0 (answers tablebase (ended kept₀ block)) out used (answers tablebase (ended kept (drop i block)))
+    pub done : Writing out₀ 0 (answers tablebase (endedLines kept₀ block)) out used (answers tablebase (endedLines kept (drop i block)))
     pub within : used ≤ mostBytes * i
 
   pub feeding-none : (block kept out : List ℕ) → Feeding block kept out 0 kept out 0
-  feeding-none block kept out = record { rest = refl; done = writing-none out 0 (answers tablebase (ended kept block)); within = omega arith }
+  feeding-none block kept out = record { rest = refl; done = writing-none out 0 (answers tablebase (endedLines kept block)); within = omega arith }
 
   module _ {block kept₀ out₀ : List ℕ} {i : ℕ} {kept out : List ℕ} {used : ℕ} (w : Feeding block kept₀ out₀ i kept out used) where
     -- a byte more
     pub feeding-more : (kept′ out′ : List ℕ) (used′ : ℕ) → i < length block → kept′ ≡ left kept (getD block i 0 ∷ [])
-        → (used′ ≡ used + length (answers tablebase (ended kept (getD block i 0 ∷ []))))
-        × ((used′ ≤ used + mostBytes) × (out′ ≡ sets out used (answers tablebase (ended kept (getD block i 0 ∷ [])))))
+        → (used′ ≡ used + length (answers tablebase (endedLines kept (getD block i 0 ∷ []))))
+        × ((used′ ≤ used + mostBytes) × (out′ ≡ sets out used (answers tablebase (endedLines kept (getD block i 0 ∷ [])))))
         → Feeding block kept₀ out₀ (i + 1) kept′ out′ used′
     feeding-more kept′ out′ used′ l e (u, (b, o)) =
         let c : List ℕ = getD block i 0 ∷ [] in
@@ -110,22 +111,23 @@ module _ (tablebase : List ℕ) where
         let d : drop i block ≡ c ++ drop (i + 1) block = drop-cons block i 0 l ∙ ap (λ (j : ℕ). getD block i 0 ∷ drop j block) k in
         let r : left kept (drop i block) ≡ left kept′ (drop (i + 1) block) =
         ap (left kept) d ∙ left-append kept c (drop (i + 1) block) ∙ ap (λ (x : List ℕ). left x (drop (i + 1) block)) (sym e) in
-        let f : List ℕ = answers tablebase (ended kept c) in
-        let g : List ℕ = answers tablebase (ended kept′ (drop (i + 1) block)) in
-        let a : answers tablebase (ended kept (drop i block)) ≡ f ++ g =
-        ap (λ (x : List ℕ). answers tablebase (ended kept x)) d ∙ ap (answers tablebase) (ended-append kept c (drop (i + 1) block))
-        ∙ answers-append (ended kept c) (ended (left kept c) (drop (i + 1) block))
-        ∙ ap (λ (x : List ℕ). f ++ answers tablebase (ended x (drop (i + 1) block))) (sym e) in
+        let f : List ℕ = answers tablebase (endedLines kept c) in
+        let g : List ℕ = answers tablebase (endedLines kept′ (drop (i + 1) block)) in
+        let a : answers tablebase (endedLines kept (drop i block)) ≡ f ++ g =
+        ap (λ (x : List ℕ). answers tablebase (endedLines kept x)) d ∙ ap (answers tablebase) (ended-append kept c (drop (i + 1) block))
+        ∙ answers-append (endedLines kept c) (endedLines (left kept c) (drop (i + 1) block))
+        ∙ ap (λ (x : List ℕ). f ++ answers tablebase (endedLines x (drop (i + 1) block))) (sym e) in
         record {
           rest = sym r ∙ w .rest;
-          done = part-written f g (subst (λ (x : List ℕ). Writing out₀ 0 (answers tablebase (ended kept₀ block)) out used x) a (w .done)) u o;
+          done = part-written f g (subst (λ (x : List ℕ). Writing out₀ 0 (answers tablebase (endedLines kept₀ block)) out used x) a (w .done)) u o;
           within = omega (arith, w .within);
         }
 
     -- all bytes
     pub feeding-all : i ≡ length block
-        → (kept ≡ left kept₀ block) × (used ≡ length (answers tablebase (ended kept₀ block))) × (out ≡ sets out₀ 0 (answers tablebase (ended kept₀ block)))
-    unfolding left ended answers
+        → (kept ≡ left kept₀ block) × (used ≡ length (answers tablebase (endedLines kept₀ block))) ×
+        (out ≡ sets out₀ 0 (answers tablebase (endedLines kept₀ block)))
+    unfolding left endedLines answers
     feeding-all e =
         let d : drop i block ≡ [] = ap (λ (j : ℕ). drop j block) e ∙ drop-length block in
         let v = writing-all (rw d at (w .done)) in

@@ -14,7 +14,8 @@ use Rattle.refusals.specs.Answers.{Answer, value}
 use Rattle.morris.specs.RankCall.{rankCall}
 use Rattle.text.specs.declared.Field.{Field}
 use Rattle.text.specs.declared.Field.the-variants.{Absent}
-use Rattle.text.specs.Text.{positionLine, mostBytes}
+use Rattle.text.specs.Text.{positionLine}
+use Rattle.text.specs.Inner.Room.{mostBytes}
 use Rattle.lines.specs.Answers.{fieldOf, onOneRing, entryField, moveField, boardLine}
 
 -- what is shown on one ring, and on more

@@ -15,7 +15,7 @@ use Rattle.outcomes.specs.Whole.{TrueEntry}
 use Rattle.outcomes.specs.Filled.{AllTables}
 use Rattle.outcomes.specs.Order.{TrueEntries}
 use Rattle.outcomes.specs.Places.{entryAt}
-use Rattle.refusals.specs.Refusals.{table, pickedRows, refusal}
+use Rattle.refusals.specs.Refusals.{refusalTable, pickedRows, refusal}
 use Rattle.refusals.specs.Conditions.{countAbove, moverBlocked, boardPicks, tablebasePicks}
 use Rattle.refusals.specs.Answers.{Answer, accepted, value}
 use Rattle.refusals.proofs.FirstRefusal.{passes, passed}
@@ -58,8 +58,8 @@ module _ (limit : ℕ) (before after : List ℕ) (filled : FillCall 1 largestCou
 
     right : refusal (tablebasePicks 1 b largestCount (length after)) ≡ 0
     right =
-        let p = passed (pickedRows table (boardPicks 1 b)) refl e in
-        sym (passes (pickedRows table (tablebasePicks 1 b largestCount (length after)))
+        let p = passed (pickedRows refusalTable (boardPicks 1 b)) refl e in
+        sym (passes (pickedRows refusalTable (tablebasePicks 1 b largestCount (length after)))
         (p .0, (p .1 .0, (p .1 .1 .0, (p .1 .1 .1 .0, (none-above, (ap not (eq-eqb (length after) (tablebaseLength 8 largestCount) exact), tt)))))))
 
     pub board-shown : Shown after b

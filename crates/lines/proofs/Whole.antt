@@ -10,7 +10,7 @@ use lib.ListN.{length, take, length-take}
 use lib.Seq.{take-all, take-append-le, take-take}
 use borrow.Author.Tests.{ltb-true, ltb-false}
 use Rattle.text.specs.Text.{lineFeed}
-use Rattle.lines.specs.Lines.{before, linesOf, mostKept, keep, ended, left, last}
+use Rattle.lines.specs.Lines.{atHead, linesOf, mostKept, keepByte, endedLines, left, last}
 use Rattle.lines.specs.Answers.{answers}
 use Rattle.lines.specs.Session.{joined, written}
 use Rattle.lines.proofs.Reading.{first-decide}
@@ -25,8 +25,8 @@ unfoldable leftWhole : List ℕ → List ℕ → List ℕ
 leftWhole kept [] = kept
 leftWhole kept (c ∷ cs) = cond (eqb c lineFeed) (leftWhole [] cs) (leftWhole (kept ++ (c ∷ [])) cs)
 
-cut-keep : (l : List ℕ) (c : ℕ) → keep (take mostKept l) c ≡ take mostKept (l ++ (c ∷ []))
-unfolding keep
+cut-keep : (l : List ℕ) (c : ℕ) → keepByte (take mostKept l) c ≡ take mostKept (l ++ (c ∷ []))
+unfolding keepByte
 cut-keep l c = go (ltb (length l) mostKept) refl
   where
     go : (t : Bool) → ltb (length l) mostKept ≡ t → take mostKept (take mostKept l ++ (c ∷ [])) ≡ take mostKept (l ++ (c ∷ []))
@@ -38,14 +38,14 @@ cut-keep l c = go (ltb (length l) mostKept) refl
         take-append-le mostKept (take mostKept l) (c ∷ []) (omega (arith, length-take mostKept l)) ∙ take-take mostKept mostKept l (omega arith)
         ∙ sym (take-append-le mostKept l (c ∷ []) h)
 
-cut-ended : (l cs : List ℕ) → ended (take mostKept l) cs ≡ map (take mostKept) (endedWhole l cs)
-unfolding ended endedWhole
+cut-ended : (l cs : List ℕ) → endedLines (take mostKept l) cs ≡ map (take mostKept) (endedWhole l cs)
+unfolding endedLines endedWhole
 cut-ended l [] = refl
-cut-ended l (c ∷ cs) = go (eqb c lineFeed) (cut-ended [] cs) (ap (λ (x : List ℕ). ended x cs) (cut-keep l c) ∙ cut-ended (l ++ (c ∷ [])) cs)
+cut-ended l (c ∷ cs) = go (eqb c lineFeed) (cut-ended [] cs) (ap (λ (x : List ℕ). endedLines x cs) (cut-keep l c) ∙ cut-ended (l ++ (c ∷ [])) cs)
   where
-    go : (t : Bool) → ended [] cs ≡ map (take mostKept) (endedWhole [] cs)
-        → ended (keep (take mostKept l) c) cs ≡ map (take mostKept) (endedWhole (l ++ (c ∷ [])) cs)
-        → cond t (take mostKept l ∷ ended [] cs) (ended (keep (take mostKept l) c) cs)
+    go : (t : Bool) → endedLines [] cs ≡ map (take mostKept) (endedWhole [] cs)
+        → endedLines (keepByte (take mostKept l) c) cs ≡ map (take mostKept) (endedWhole (l ++ (c ∷ [])) cs)
+        → cond t (take mostKept l ∷ endedLines [] cs) (endedLines (keepByte (take mostKept l) c) cs)
         ≡ map (take mostKept) (cond t (l ∷ endedWhole [] cs) (endedWhole (l ++ (c ∷ [])) cs))
     go true p q = ap (λ (x : List (List ℕ)). take mostKept l ∷ x) p
     go false p q = q
@@ -55,8 +55,8 @@ unfolding left leftWhole
 cut-left l [] = refl
 cut-left l (c ∷ cs) = go (eqb c lineFeed) (cut-left [] cs) (ap (λ (x : List ℕ). left x cs) (cut-keep l c) ∙ cut-left (l ++ (c ∷ [])) cs)
   where
-    go : (t : Bool) → left [] cs ≡ take mostKept (leftWhole [] cs) → left (keep (take mostKept l) c) cs ≡ take mostKept (leftWhole (l ++ (c ∷ [])) cs)
-        → cond t (left [] cs) (left (keep (take mostKept l) c) cs) ≡ take mostKept (cond t (leftWhole [] cs) (leftWhole (l ++ (c ∷ [])) cs))
+    go : (t : Bool) → left [] cs ≡ take mostKept (leftWhole [] cs) → left (keepByte (take mostKept l) c) cs ≡ take mostKept (leftWhole (l ++ (c ∷ [])) cs)
+        → cond t (left [] cs) (left (keepByte (take mostKept l) c) cs) ≡ take mostKept (cond t (leftWhole [] cs) (leftWhole (l ++ (c ∷ [])) cs))
     go true p q = p
     go false p q = q
 
@@ -80,8 +80,8 @@ unfolding last
 last-longer [] c = refl
 last-longer (x ∷ l) c = refl
 
-attach-before : (l : List ℕ) (c : ℕ) (ls : List (List ℕ)) → attach (l ++ (c ∷ [])) ls ≡ attach l (before c ls)
-unfolding attach before
+attach-before : (l : List ℕ) (c : ℕ) (ls : List (List ℕ)) → attach (l ++ (c ∷ [])) ls ≡ attach l (atHead c ls)
+unfolding attach atHead
 attach-before l c [] = last-longer l c
 attach-before l c (m ∷ ms) = ap (λ (x : List ℕ). x ∷ ms) (append-assoc l (c ∷ []) m)
 
@@ -92,23 +92,24 @@ split-whole l (c ∷ cs) =
     go (eqb c lineFeed) (split-whole [] cs ∙ attach-nil (linesOf cs)) (split-whole (l ++ (c ∷ [])) cs ∙ attach-before l c (linesOf cs))
   where
     go : (t : Bool) → endedWhole [] cs ++ last (leftWhole [] cs) ≡ linesOf cs
-        → endedWhole (l ++ (c ∷ [])) cs ++ last (leftWhole (l ++ (c ∷ [])) cs) ≡ attach l (before c (linesOf cs))
+        → endedWhole (l ++ (c ∷ [])) cs ++ last (leftWhole (l ++ (c ∷ [])) cs) ≡ attach l (atHead c (linesOf cs))
         → cond t (l ∷ endedWhole [] cs) (endedWhole (l ++ (c ∷ [])) cs) ++ last (cond t (leftWhole [] cs) (leftWhole (l ++ (c ∷ [])) cs))
-        ≡ attach l (cond t ([] ∷ linesOf cs) (before c (linesOf cs)))
+        ≡ attach l (cond t ([] ∷ linesOf cs) (atHead c (linesOf cs)))
     go true p q = ap₂ (λ (x : List ℕ) (y : List (List ℕ)). x ∷ y) (sym (append-nil l)) p
     go false p q = q
 
 module _ (tablebase : List ℕ) where
   -- how the input is cut into blocks does not show
-  blocks-join : (kept : List ℕ) (bs : List (List ℕ)) → written tablebase kept bs ≡ answers tablebase (ended kept (joined bs) ++ last (left kept (joined bs)))
-  unfolding written joined ended left
+  blocks-join : (kept : List ℕ) (bs : List (List ℕ)) → written tablebase kept bs ≡ answers tablebase
+      (endedLines kept (joined bs) ++ last (left kept (joined bs)))
+  unfolding written joined endedLines left
   blocks-join kept [] = refl
   blocks-join kept (b ∷ bs) =
       let j : List ℕ = joined bs in
       let k : List ℕ = left kept b in
-      ap (λ (x : List ℕ). answers tablebase (ended kept b) ++ x) (blocks-join k bs)
-      ∙ sym (answers-append tablebase (ended kept b) (ended k j ++ last (left k j)))
-      ∙ ap (answers tablebase) (sym (append-assoc (ended kept b) (ended k j) (last (left k j))))
+      ap (λ (x : List ℕ). answers tablebase (endedLines kept b) ++ x) (blocks-join k bs)
+      ∙ sym (answers-append tablebase (endedLines kept b) (endedLines k j ++ last (left k j)))
+      ∙ ap (answers tablebase) (sym (append-assoc (endedLines kept b) (endedLines k j) (last (left k j))))
       ∙ ap₂ (λ (x : List (List ℕ)) (y : List ℕ). answers tablebase (x ++ last y)) (sym (ended-append kept b j)) (sym (left-append kept b j))
 
   -- nor do the 65 bytes that are kept of a line

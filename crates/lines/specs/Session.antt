@@ -2,7 +2,7 @@
 -- Assumes nothing.
 use mathlib.Core.List.{List, [], _∷_, _++_}
 use Prim.Native.Nat.{ℕ}
-use Rattle.lines.specs.Lines.{ended, left, last}
+use Rattle.lines.specs.Lines.{endedLines, left, last}
 use Rattle.lines.specs.Answers.{answers}
 
 -- the input as a whole
@@ -13,4 +13,4 @@ joined (b ∷ bs) = b ++ joined bs
 -- what is written: for each block what `feed` writes, and at the end what `finish` writes for what is kept
 unfoldable pub written : List ℕ → List ℕ → List (List ℕ) → List ℕ
 written tablebase kept [] = answers tablebase (last kept)
-written tablebase kept (b ∷ bs) = answers tablebase (ended kept b) ++ written tablebase (left kept b) bs
+written tablebase kept (b ∷ bs) = answers tablebase (endedLines kept b) ++ written tablebase (left kept b) bs

@@ -7,7 +7,7 @@ ghost use lib.ListN.{length};
 ghost use lib.Seq.{sets};
 ghost use Rattle.refusals.specs.Answers.{value};
 ghost use Rattle.morris.specs.RankCall.{rankCall};
-ghost use Rattle.text.specs.Text.{mostBytes};
+ghost use Rattle.text.specs.Inner.Room.{mostBytes};
 ghost use Rattle.lines.specs.Answers.{entryField, moveField, boardLine, answerOf};
 use board::Position;
 use morris::Chosen;

@@ -5,8 +5,8 @@ ghost use Prim.Native.Nat.{_+_, _*_, _≤_};
 ghost use lib.ListN.{length, take};
 ghost use lib.Seq.{sets};
 ghost use Rattle.io.specs.Counts.{Counts};
-ghost use Rattle.text.specs.Text.{mostBytes};
-ghost use Rattle.lines.specs.Lines.{mostKept, keep as Lines·keep, ended, left, last};
+ghost use Rattle.text.specs.Inner.Room.{mostBytes};
+ghost use Rattle.lines.specs.Lines.{mostKept, keepByte as Lines·keep, endedLines, left, last};
 ghost use Rattle.lines.specs.Answers.{answers};
 use super::answering;
 
@@ -20,7 +20,7 @@ pub struct Fed {
 }
 
 // One byte more of a line: the first 65 are kept.
-fn keep(held: &mut [u8], kept: usize, c: u8) -> usize
+fn keep_byte(held: &mut [u8], kept: usize, c: u8) -> usize
     requires { ⌜ (length (now held) ≡ mostKept) × (kept ≤ mostKept) ⌝ }
     ensures held { λ r. ⌜ (length (now (held .exit)) ≡ mostKept) × (r ≤ mostKept) ⌝ }
     ensures kept { λ r. ⌜ take r (now (held .exit)) ≡ Lines·keep (take kept (now (held .entry))) c ⌝ }
@@ -38,9 +38,10 @@ fn step(tablebase: &[u16], c: u8, held: &mut [u8], kept: usize, out: &mut [u8], 
     requires { ⌜ used + mostBytes ≤ length (now out) ⌝ }
     ensures held { λ r. ⌜ (length (now (held .exit)) ≡ mostKept) × (r .kept ≤ mostKept) ⌝ }
     ensures kept { λ r. ⌜ take (r .kept) (now (held .exit)) ≡ left (take kept (now (held .entry))) (c ∷ []) ⌝ }
-    ensures place { λ r. ⌜ r .used ≡ used + length (answers (now (tablebase .entry)) (ended (take kept (now (held .entry))) (c ∷ []))) ⌝ }
+    ensures place { λ r. ⌜ r .used ≡ used + length (answers (now (tablebase .entry)) (endedLines (take kept (now (held .entry))) (c ∷ []))) ⌝ }
     ensures bound { λ r. ⌜ r .used ≤ used + mostBytes ⌝ }
-    ensures buffer { λ _. ⌜ now (out .exit) ≡ sets (now (out .entry)) used (answers (now (tablebase .entry)) (ended (take kept (now (held .entry))) (c ∷ []))) ⌝ }
+    ensures buffer { λ _. ⌜ now (out .exit) ≡ sets (now (out .entry)) used
+        (answers (now (tablebase .entry)) (endedLines (take kept (now (held .entry))) (c ∷ []))) ⌝ }
 {
     if c == b'\n' {
         let next = answering::answer_at(tablebase, &held[..kept], out, used);
@@ -49,7 +50,7 @@ fn step(tablebase: &[u16], c: u8, held: &mut [u8], kept: usize, out: &mut [u8], 
             used: next,
         };
     }
-    let more = keep(held, kept, c);
+    let more = keep_byte(held, kept, c);
     Fed { kept: more, used }
 }
 
@@ -59,9 +60,10 @@ pub fn feed(tablebase: &[u16], block: &[u8], held: &mut [u8], kept: usize, out: 
     requires { ⌜ mostBytes * length (now block) ≤ length (now out) ⌝ }
     ensures held { λ r. ⌜ (length (now (held .exit)) ≡ mostKept) × (r .kept ≤ mostKept) ⌝ }
     ensures kept { λ r. ⌜ take (r .kept) (now (held .exit)) ≡ left (take kept (now (held .entry))) (now (block .entry)) ⌝ }
-    ensures place { λ r. ⌜ r .used ≡ length (answers (now (tablebase .entry)) (ended (take kept (now (held .entry))) (now (block .entry)))) ⌝ }
+    ensures place { λ r. ⌜ r .used ≡ length (answers (now (tablebase .entry)) (endedLines (take kept (now (held .entry))) (now (block .entry)))) ⌝ }
     ensures bound { λ r. ⌜ Counts (r .used) (now (out .exit)) ⌝ }
-    ensures buffer { λ _. ⌜ now (out .exit) ≡ sets (now (out .entry)) 0 (answers (now (tablebase .entry)) (ended (take kept (now (held .entry))) (now (block .entry)))) ⌝ }
+    ensures buffer { λ _. ⌜ now (out .exit) ≡ sets (now (out .entry)) 0
+        (answers (now (tablebase .entry)) (endedLines (take kept (now (held .entry))) (now (block .entry)))) ⌝ }
 {
     let mut count = kept;
     let mut used = 0;

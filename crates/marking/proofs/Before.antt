@@ -22,10 +22,10 @@ use Rattle.rules.specs.Ply.{exchange}
 use Rattle.rules.specs.Predecessors.{unslide}
 use Rattle.rules.proofs.Leads.{slide-is}
 use Rattle.rules.proofs.OnSets.{set-within}
-use Rattle.plies.specs.Positions.{Placed}
+use Rattle.plies.specs.Inner.Positions.{Placed}
 use Rattle.marking.specs.declared.Back.{Back}
-use Rattle.marking.specs.Stones.{VacantAt, VacantAll, Room, Returning}
-use Rattle.ranking.specs.Inserting.{Vacant}
+use Rattle.marking.specs.Inner.Stones.{VacantAt, VacantAll, Room, Returning}
+use Rattle.ranking.specs.Inner.Inserting.{Vacant}
 use Rattle.ranking.proofs.Puts.{mover-ones, opponent-ones, put-mover-on, put-mover-board, take-mover-on, take-mover-board}
 
 -- what stands at a point, by the digits of the two sides, once the sides change names

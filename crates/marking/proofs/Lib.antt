@@ -1,4 +1,4 @@
 pub mod Before
 pub mod Marks
 pub mod Marking
-pub mod Stones
+pub mod Origins

@@ -6,10 +6,10 @@ use native.Mathlib.Omega.{arith}
 use lib.ListN.{length}
 use Rattle.lists.specs.Lists.{each}
 use Rattle.sets.specs.Sets.{bit, elements}
-use Rattle.sets.specs.Taken.{Taken}
+use Rattle.sets.specs.Inner.Taken.{Taken}
 use Rattle.sets.proofs.Elements.{elements-none}
 use Rattle.ranking.specs.Rank.{rank}
-use Rattle.marking.specs.Marks.{marked, places}
+use Rattle.marking.specs.Inner.Marks.{marked, places}
 use Rattle.marking.proofs.Marks.{marked-none, marked-append, marked-length}
 
 module _ (start : ℕ) (f : ℕ → List (List ℕ)) where

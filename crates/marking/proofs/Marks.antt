@@ -10,7 +10,7 @@ use lib.ListN.{length, getD, set, length-set}
 use lib.Seq.{getD-set-same, getD-set-other, set-out}
 use borrow.Author.Tests.{eqb-true, eqb-false, ne-eqb, ltb-true, ltb-false}
 use Rattle.game.specs.Game.{drawEntry, voidEntry}
-use Rattle.marking.specs.Marks.{markAt, marked}
+use Rattle.marking.specs.Inner.Marks.{markAt, marked}
 
 -- a mark, by whether the place is open
 pub mark-is : (j : ℕ) (tablebase : List ℕ)

@@ -8,10 +8,10 @@ ghost use Rattle.sets.specs.Sets.{bit, elements};
 ghost use Rattle.board.specs.Board.{count, digit, boardOf};
 ghost use Rattle.ranking.specs.Rank.{rank};
 ghost use Rattle.rules.specs.Predecessors.{restored, predecessors};
-ghost use Rattle.plies.specs.Masks.{Masks};
-ghost use Rattle.plies.specs.Positions.{Playable};
-ghost use Rattle.marking.specs.Marks.{markAt, marked, places};
-ghost use Rattle.marking.specs.Stones.{mayHaveMoved, beforeStone, VacantAt, VacantAll, Markable, Putting, Returning};
+ghost use Rattle.plies.specs.Inner.Masks.{Masks};
+ghost use Rattle.plies.specs.Inner.Positions.{Playable};
+ghost use Rattle.marking.specs.Inner.Marks.{markAt, marked, places};
+ghost use Rattle.marking.specs.Inner.Stones.{mayHaveMoved, beforeStone, VacantAt, VacantAll, Markable, Putting, Returning};
 use parts::Part;
 
 // Where the positions before a ply stand, and whether that ply removed a stone.
@@ -113,9 +113,6 @@ fn mark_each_origin(
     }
 }
 
-// For so few origins the walk up the points costs more than it saves.
-const FEW: u32 = 4;
-
 // Marks the positions in which the stone at one point stood at any of some vacant points.
 fn mark_origins(
     tablebase: &mut [u16],
@@ -131,7 +128,7 @@ fn mark_origins(
     ensures { λ _. ⌜ now (tablebase .exit)
         ≡ marked (places (back .part .start) (each (λ from. restored (back .capture) rings (boardOf (8 * rings) position) to from) (elements 32 froms))) (now (tablebase .entry)) ⌝ }
 {
-    if back.capture | (sets::count(froms) <= FEW) {
+    if back.capture | (sets::count(froms) <= ranking::WALK_PAYS_ABOVE) {
         mark_each_origin(tablebase, binomials, rings, back, position, to, froms);
     } else {
         let lifted = board::Position {
@@ -179,7 +176,7 @@ fn mark_stone(
             mover: position.opponent,
             opponent: position.mover,
         };
-        let froms = plies::targets(rings, masks, turned, to);
+        let froms = plies::destinations(rings, masks, turned, to);
         mark_origins(tablebase, binomials, rings, back, position, to, froms);
     }
 }

@@ -18,10 +18,11 @@ use Rattle.outcomes.specs.Places.{successorEntry, successorVoid}
 use Rattle.outcomes.specs.Whole.{next}
 use Rattle.outcomes.proofs.Ranked.{own-table}
 use Rattle.outcomes.proofs.Voids.{read-void}
-use Rattle.probing.specs.Probes.{probe, Reads}
-use Rattle.bestmove.specs.Best.{bestEntry, bestMove, entryBy}
+use Rattle.probing.specs.Inner.Probes.{probe, Reads}
+use Rattle.bestmove.specs.Best.{bestEntry, bestMove}
+use Rattle.bestmove.specs.Inner.Worth.{entryBy}
 use Rattle.bestmove.proofs.Choice.{best-same, best-listed}
-use Rattle.sweeping.specs.Tables.{lowerStart}
+use Rattle.sweeping.specs.Inner.Tables.{lowerStart}
 use Rattle.sweeping.proofs.Probed.{reads-within, probed}
 use Rattle.refusals.specs.Conditions.{moverBlocked}
 use Rattle.morris.specs.BestMoveCall.{entryAfter, bestListed, bestSuccessor}

@@ -12,7 +12,7 @@ use Rattle.board.specs.Board.{setOf, count, boardOf}
 use Rattle.board.proofs.Sides.{position-sides}
 use Rattle.frames.specs.Frame.{frameLength, ringsIn, boardIn, frameOf}
 use Rattle.frames.proofs.RoundTrip.{rings-back, board-back, length-frame, frame-fine, frame-back}
-use Rattle.refusals.specs.Refusals.{table, pickedRows, refusal}
+use Rattle.refusals.specs.Refusals.{refusalTable, pickedRows, refusal}
 use Rattle.refusals.specs.Conditions.{ringsWrong, valueWrong, countsWrong, boardPicks, readPicks, shortPicks}
 use Rattle.refusals.specs.Answers.{accepted, number}
 use Rattle.morris.specs.ReadFrameCall.{framePosition, readFrameCall}
@@ -33,12 +33,12 @@ module _ (rings : ℕ) (b : List ℕ) (e : refusal (boardPicks rings b) ≡ 0) w
   unfolding readFrameCall
   frame-reads =
       let w = accepted-board rings b e in
-      let p = passed (pickedRows table (boardPicks rings b)) refl e in
+      let p = passed (pickedRows refusalTable (boardPicks rings b)) refl e in
       let f = frameOf rings b in
       let r : ringsIn f ≡ rings = rings-back rings b (w .rings-high) (w .points) (w .values) in
       let c : boardIn f ≡ b = board-back rings b (w .rings-high) (w .points) (w .values) in
       let z : 0 ≡ refusal (readPicks f) =
-      passes (pickedRows table (readPicks f)) (
+      passes (pickedRows refusalTable (readPicks f)) (
         frame-fine rings b (w .rings-high) (w .points) (w .values),
         (
           ap ringsWrong r ∙ p .0,
@@ -71,9 +71,9 @@ pub write-then-read : (rings : ℕ) (b old : List ℕ) → number (writeFrameCal
 unfolding writeFrameCall writeFrameTarget
 write-then-read rings b old e =
     let n = number-none (refusal (shortPicks rings b (length old) (frameLength rings))) (frameLength rings ∷ []) e in
-    let p = passed (pickedRows table (shortPicks rings b (length old) (frameLength rings))) refl n in
+    let p = passed (pickedRows refusalTable (shortPicks rings b (length old) (frameLength rings))) refl n in
     let a : refusal (boardPicks rings b) ≡ 0 =
-    sym (passes (pickedRows table (boardPicks rings b)) (p .0, (p .1 .0, (p .1 .1 .0, (p .1 .1 .1 .0, tt))))) in
+    sym (passes (pickedRows refusalTable (boardPicks rings b)) (p .0, (p .1 .0, (p .1 .1 .0, (p .1 .1 .1 .0, tt))))) in
     let room : frameLength rings ≤ length old = ltb-false (length old) (frameLength rings) (p .1 .1 .1 .1 .0) in
     let f : List ℕ = frameOf rings b in
     let l : length f ≡ frameLength rings = frame-characters rings b a in
@@ -99,7 +99,7 @@ pub read-then-write : (f old : List ℕ) → number (readFrameCall f) ≡ 0 → 
 unfolding readFrameCall writeFrameCall writeFrameTarget
 read-then-write f old e room =
     let n = number-none (refusal (readPicks f)) (framePosition f) e in
-    let p = passed (pickedRows table (readPicks f)) refl n in
+    let p = passed (pickedRows refusalTable (readPicks f)) refl n in
     let a = board-accepted f n in
     let r = ringsIn f in
     let b = boardIn f in

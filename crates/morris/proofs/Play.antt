@@ -17,13 +17,14 @@ use Rattle.rules.specs.Ply.{removable, listedMoves, removedOf, afterPly}
 use Rattle.rules.proofs.Bound.{moves-bound}
 use Rattle.rules.proofs.Listed.{removable-takes}
 use Rattle.rules.proofs.Leads.{MoverLeft, ply-leads}
-use Rattle.refusals.specs.Refusals.{table, pickedRows, refusal}
+use Rattle.refusals.specs.Refusals.{refusalTable, pickedRows, refusal}
 use Rattle.refusals.specs.Conditions.{boardPicks, targetPicks, movePicks, shortPicks}
 use Rattle.refusals.specs.Answers.{accepted}
 use Rattle.morris.specs.MovesCall.{movesCall, movesList}
 use Rattle.morris.specs.MakeMoveCall.{makeMoveCall, makeMoveTarget}
 use Rattle.refusals.proofs.FirstRefusal.{passes}
-use Rattle.refusals.proofs.Conditions.{Counted, Accepted, accepted-board, rings-fine, length-fine, values-fine, counts-fine, short-decides, target-decides, move-decides}
+use Rattle.refusals.proofs.Conditions.{RightCounts, Accepted, accepted-board, rings-fine, length-fine, values-fine, counts-fine, short-decides}
+use Rattle.refusals.proofs.Conditions.{target-decides, move-decides}
 use Rattle.refusals.proofs.Answering.{answer-accepted, target-written}
 
 module _ (rings : ℕ) (b : List ℕ) (e : refusal (boardPicks rings b) ≡ 0) where
@@ -67,14 +68,14 @@ module _ (rings : ℕ) (b : List ℕ) (e : refusal (boardPicks rings b) ≡ 0) w
         let l = ply-leads (λ n d. removable n d) removable-takes rings (w .rings-high) b (w .values) (w .points) move
         (member-is move (listedMoves rings b) listed) in
         let p = l .points ∙ w .points in
-        let counted : Counted (8 * rings) (count 1 (afterPly b move)) (count 2 (afterPly b move)) = record {
+        let counted : RightCounts (8 * rings) (count 1 (afterPly b move)) (count 2 (afterPly b move)) = record {
           mover-low = three;
           mover-high = high (l .mover) (c .opponent-high);
           opponent-low = omega (arith, l .opponent, c .mover-low);
           opponent-high = omega (arith, l .opponent, c .mover-high);
           stones-fit = omega (arith, count-all (afterPly b move) (l .values), p);
         } in
-        sym (passes (pickedRows table (boardPicks rings (afterPly b move))) (
+        sym (passes (pickedRows refusalTable (boardPicks rings (afterPly b move))) (
           rings-fine rings (w .rings-low) (w .rings-high),
           (
             length-fine rings (length (afterPly b move)) p,

@@ -15,7 +15,7 @@ use Rattle.ranking.specs.Rank.{rank}
 use Rattle.rules.specs.Ply.{removable, listedMoves, afterPly}
 use Rattle.rules.proofs.Listed.{removable-takes}
 use Rattle.rules.proofs.Leads.{ply-leads}
-use Rattle.plies.specs.Positions.{Placed}
+use Rattle.plies.specs.Inner.Positions.{Placed}
 use Rattle.plies.proofs.After.{board-placed, board-back}
 use Rattle.refusals.proofs.Conditions.{Accepted, few-points}
 

@@ -10,8 +10,8 @@ use lib.Dec.{ltb, eqb}
 use lib.ListN.{length}
 use borrow.Author.Tests.{eqb-false}
 use Rattle.lists.specs.Lists.{all}
-use Rattle.solver.specs.Solve.{WholeFill, PairFill}
-use Rattle.refusals.specs.Refusals.{Pick, Picked, pick, tooDeep, table, pickedRows, first, refusal}
+use Rattle.solver.specs.Inner.Solve.{WholeFill, PairFill}
+use Rattle.refusals.specs.Refusals.{Pick, Picked, pick, tooDeep, refusalTable, pickedRows, first, refusal}
 use Rattle.refusals.specs.Conditions.{fillPicks, pairPicks}
 use Rattle.refusals.specs.Answers.{Answer, accepted, refused, answer}
 use Rattle.morris.specs.Fills.{Left, Promise, FillCall, FillPairCall}
@@ -20,9 +20,10 @@ use Rattle.refusals.proofs.Answering.{answer-refused, refused-number, accepted-
 
 -- picked conditions, after which comes depth
 pub record DepthLast (picks : List Pick) : Type 0 where
-  pub rows : (deep : Bool) → pickedRows table (pick tooDeep deep ∷ picks) ≡ pickedRows table picks ++ (record { holds = deep; number = 13 } ∷ [])
-  pub numbers : all (λ r. ltb 0 (r .number)) (pickedRows table picks) ≡ true
-  pub others : all (λ r. not (eqb (r .number) 13)) (pickedRows table picks) ≡ true
+  pub rows : (deep : Bool) → pickedRows refusalTable (pick tooDeep deep ∷ picks) ≡ pickedRows refusalTable picks ++
+      (record { holds = deep; number = 13 } ∷ [])
+  pub numbers : all (λ r. ltb 0 (r .number)) (pickedRows refusalTable picks) ≡ true
+  pub others : all (λ r. not (eqb (r .number) 13)) (pickedRows refusalTable picks) ≡ true
 
 pub fill-last : (rings k limit n : ℕ) → DepthLast (fillPicks rings k limit n)
 fill-last rings k limit n = record { rows = λ deep. refl; numbers = refl; others = refl }
@@ -34,11 +35,11 @@ module _ (picks : List Pick) (last : DepthLast picks) where
   -- an earlier refusal stays, whatever the depth
   pub earlier-refusal : (deep : Bool) (n : ℕ) → (n ≡ 0 → ⊥) → n ≡ refusal picks → n ≡ refusal (pick tooDeep deep ∷ picks)
   earlier-refusal deep n z e =
-      first-kept (pickedRows table picks) (record { holds = deep; number = 13 } ∷ []) n z e ∙ ap first (sym (last .rows deep))
+      first-kept (pickedRows refusalTable picks) (record { holds = deep; number = 13 } ∷ []) n z e ∙ ap first (sym (last .rows deep))
 
   -- where there is none, the depth decides
   pub depth-decides : (deep : Bool) → 0 ≡ refusal picks → refusal (pick tooDeep deep ∷ picks) ≡ cond deep 13 0
-  depth-decides deep e = ap first (last .rows deep) ∙ one-more (pickedRows table picks) deep 13 (last .numbers) e
+  depth-decides deep e = ap first (last .rows deep) ∙ one-more (pickedRows refusalTable picks) deep 13 (last .numbers) e
 
   module _ (fill : Bool → Type 0) (before after : List ℕ) where
     pub promise-refused : (n : ℕ) → (n ≡ 0 → ⊥) → n ≡ refusal picks → Promise picks fill before before (refused n)
@@ -96,7 +97,7 @@ module _ (picks : List Pick) (last : DepthLast picks) where
         where
           go : (n : ℕ) → refusal picks ≡ n → refusal picks ≡ 0
           go zero e = e
-          go (suc n) e = absurd (not-thirteen (pickedRows table picks) (last .others)
+          go (suc n) e = absurd (not-thirteen (pickedRows refusalTable picks) (last .others)
               (e ∙ earlier-refusal (p .deep) (suc n) (λ z. omega arith) (sym e) ∙ deep-met))
 
       pub deep-fill : (refusal picks ≡ 0) × fill true

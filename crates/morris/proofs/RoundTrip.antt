@@ -10,7 +10,7 @@ use Rattle.sizes.specs.Size.{size}
 use Rattle.ranking.specs.Rank.{rank}
 use Rattle.ranking.specs.Unrank.{unrank}
 use Rattle.ranking.proofs.Inverse.{rank-unrank, unrank-rank, rank-low}
-use Rattle.refusals.specs.Refusals.{table, pickedRows, refusal}
+use Rattle.refusals.specs.Refusals.{refusalTable, pickedRows, refusal}
 use Rattle.refusals.specs.Conditions.{boardPicks, rankPicks}
 use Rattle.refusals.specs.Answers.{accepted, answer, number, target}
 use Rattle.morris.specs.RankCall.{rankCall}
@@ -29,7 +29,7 @@ rank-then-unrank rings b old e l =
     let o = count 2 b in
     let low : rank b < size (8 * rings) m o = subst (λ (n : ℕ). rank b < size n m o) (w .points) (rank-low b (w .values)) in
     let z : 0 ≡ refusal (rankPicks rings m o (rank b) (length old)) =
-    passes (pickedRows table (rankPicks rings m o (rank b) (length old))) (
+    passes (pickedRows refusalTable (rankPicks rings m o (rank b) (length old))) (
       rings-fine rings (w .rings-low) (w .rings-high),
       (counts-fine (8 * rings) m o (w .counted), (length-fine rings (length old) l, (lt-leb (size (8 * rings) m o) (rank b) low, tt))),
     ) in
@@ -46,7 +46,7 @@ unrank-then-rank rings m o r old e =
     let u = rank-unrank (8 * rings) m o r (w .rank-low) in
     let b = unrank (8 * rings) m o r in
     let z : 0 ≡ refusal (boardPicks rings b) =
-    passes (pickedRows table (boardPicks rings b)) (
+    passes (pickedRows refusalTable (boardPicks rings b)) (
       rings-fine rings (w .counts .rings-low) (w .counts .rings-high),
       (
         length-fine rings (length b) (u .points),

@@ -24,12 +24,12 @@ pub data Case : Type 0 where
   -- a tablebase of largest count k has this length
   lengthIs : (rings k length : ℕ) → Case
 
-unfoldable pub holds : Case → Bool
-holds (rankIs rings reading r) = eqb (number (rankCall rings (reverse reading))) 0 && eqb (value (rankCall rings (reverse reading)) 0) r
-holds (entryIs rings reading e) = depthIs (next rings) (λ b. wholeSeed b) e (reverse reading)
-holds (refusalIs rings m o r n) = eqb (refusal (rankPicks rings m o r (8 * rings))) n
-holds (sizeIs rings m o n) = eqb (size (8 * rings) m o) n
-holds (lengthIs rings k n) = eqb (tablebaseLength (8 * rings) k) n
+unfoldable pub caseHolds : Case → Bool
+caseHolds (rankIs rings reading r) = eqb (number (rankCall rings (reverse reading))) 0 && eqb (value (rankCall rings (reverse reading)) 0) r
+caseHolds (entryIs rings reading e) = depthIs (next rings) (λ b. wholeSeed b) e (reverse reading)
+caseHolds (refusalIs rings m o r n) = eqb (refusal (rankPicks rings m o r (8 * rings))) n
+caseHolds (sizeIs rings m o n) = eqb (size (8 * rings) m o) n
+caseHolds (lengthIs rings k n) = eqb (tablebaseLength (8 * rings) k) n
 
 abbrev pub starred : List Case
 starred =

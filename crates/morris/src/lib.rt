@@ -133,7 +133,7 @@ pub fn lookup(rings: u8, board: &[u8], k: u8, tablebase: &[u16]) -> Looked
     let start = layout::start(&binomials, board.len(), k as usize, mover, opponent);
     let entry = tablebase[start + ranking::rank(&binomials, board.len(), position)];
     if entry == parts::VOID {
-        return Looked::Refused(refusals::VOID);
+        return Looked::Refused(refusals::VOID_READ);
     }
     Looked::Entry(entry)
 }
@@ -162,7 +162,7 @@ pub fn best_move(rings: u8, board: &[u8], k: u8, tablebase: &[u16]) -> Chosen
         starts,
         position,
     ) {
-        return Chosen::Refused(refusals::VOID);
+        return Chosen::Refused(refusals::VOID_READ);
     }
     let best = bestmove::best_move(
         tablebase,
@@ -234,7 +234,7 @@ pub fn fill_pair(
     let m = mover as usize;
     let o = opponent as usize;
     if solver::lower_void(tablebase, &binomials, rings as usize, k as usize, m, o) {
-        return Solved::Refused(refusals::VOID);
+        return Solved::Refused(refusals::VOID_READ);
     }
     let masks = plies::masks_of(rings as usize);
     let images = imaging::ring_images();

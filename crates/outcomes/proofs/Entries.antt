@@ -12,7 +12,7 @@ use Rattle.sizes.specs.Size.{size}
 use Rattle.ranking.specs.Rank.{rank}
 use Rattle.ranking.specs.Unrank.{unrank}
 use Rattle.layout.specs.Layout.{start}
-use Rattle.outcomes.specs.Places.{place, entryAt, successorEntry}
+use Rattle.outcomes.specs.Places.{placeOf, entryAt, successorEntry}
 use Rattle.outcomes.specs.Pair.{Pair, inPair}
 use Rattle.outcomes.specs.Filled.{BothTables, Kept}
 use Rattle.outcomes.proofs.Boards.{InTables}
@@ -20,12 +20,12 @@ use Rattle.outcomes.proofs.Ranked.{unrank-in, place-unrank, one-board}
 use Rattle.outcomes.proofs.PairGame.{OnPair, pair-table, in-pair, stands, stands-own}
 
 module _ (rings k : ℕ) (tablebase b : List ℕ) where
-  pub entry-place : entryAt rings k tablebase b ≡ getD tablebase (place rings k b) 0
+  pub entry-place : entryAt rings k tablebase b ≡ getD tablebase (placeOf rings k b) 0
   unfolding entryAt
   entry-place = refl
 
   pub entry-rank : getD tablebase (start (8 * rings) k (count 1 b) (count 2 b) + rank b) 0 ≡ entryAt rings k tablebase b
-  unfolding entryAt place
+  unfolding entryAt placeOf
   entry-rank = refl
 
   pub entry-two : count 1 b < 3 → successorEntry rings k tablebase b ≡ 0
@@ -44,14 +44,14 @@ entry-unrank rings k x y r tablebase h = ap (λ (i : ℕ). getD tablebase i 0) (
 
 -- one entry written
 module _ (rings k : ℕ) (tablebase p : List ℕ) (v : ℕ) where
-  pub written-here : place rings k p < length tablebase → entryAt rings k (set tablebase (place rings k p) v) p ≡ v
+  pub written-here : placeOf rings k p < length tablebase → entryAt rings k (set tablebase (placeOf rings k p) v) p ≡ v
   unfolding entryAt
-  written-here h = getD-set-same tablebase (place rings k p) v 0 h
+  written-here h = getD-set-same tablebase (placeOf rings k p) v 0 h
 
   pub written-elsewhere : (q : List ℕ) → InTables rings k p → InTables rings k q → (q ≡ p → ⊥)
-      → entryAt rings k (set tablebase (place rings k p) v) q ≡ entryAt rings k tablebase q
+      → entryAt rings k (set tablebase (placeOf rings k p) v) q ≡ entryAt rings k tablebase q
   unfolding entryAt
-  written-elsewhere q s t ne = getD-set-other tablebase (place rings k p) (place rings k q) v 0 (λ e. ne (one-board rings k q p t s e))
+  written-elsewhere q s t ne = getD-set-other tablebase (placeOf rings k p) (placeOf rings k q) v 0 (λ e. ne (one-board rings k q p t s e))
 
 -- every other entry is as it was
 pub kept-same : (rings k : ℕ) (T : ℕ → ℕ → Type 0) (tablebase : List ℕ) → Kept rings k T tablebase tablebase
@@ -72,7 +72,7 @@ pub kept-standing : (rings k : ℕ) (T : ℕ → ℕ → Type 0) (before after :
     → ((x y r : ℕ) → T x y → r < size (8 * rings) x y → InTables rings k (unrank (8 * rings) x y r))
     → (b : List ℕ) → InTables rings k b → (T (count 1 b) (count 2 b) → ⊥) → entryAt rings k after b ≡ entryAt rings k before b
 unfolding entryAt
-kept-standing rings k T before after w stand b s out = w .rest (place rings k b) (λ x y r t h e.
+kept-standing rings k T before after w stand b s out = w .rest (placeOf rings k b) (λ x y r t h e.
     let c = unrank (8 * rings) x y r in
     let i = unrank-in rings x y r h in
     let q : c ≡ b = one-board rings k c b (stand x y r t h) s (place-unrank rings k x y r h ∙ e) in

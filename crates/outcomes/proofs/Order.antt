@@ -15,36 +15,37 @@ use Rattle.game.specs.Game.{voidEntry}
 use Rattle.outcomes.specs.Whole.{wholeSeed}
 use Rattle.outcomes.specs.Pair.{Pair, pairSeed, LowerTables}
 use Rattle.outcomes.specs.Filled.{AllTables, BothTables, Filled, TooDeep}
-use Rattle.outcomes.specs.Order.{TrueEntries, TrueOn, Beyond, Before, rows, mine, yours, InOrder, at-first, one-pair, no-room, next-row}
+use Rattle.outcomes.specs.Order.{TrueEntries, Beyond, InOrder, at-first, one-pair, no-room, next-row}
+use Rattle.outcomes.specs.Inner.Done.{TrueOn, DoneBefore, rows, mine, yours}
 use Rattle.outcomes.proofs.PairTrue.{LowerTrue}
 use Rattle.outcomes.proofs.TrueTables.{true-fewer, filled-limit, true-more, deep-beyond}
 use Rattle.outcomes.proofs.Unique.{entries-one}
 
 -- nothing is before the first pair
-before-none : (x y : ℕ) → Before 3 3 x y → ⊥
+before-none : (x y : ℕ) → DoneBefore 3 3 x y → ⊥
 before-none x y (rows a b c d) = omega arith
 before-none x y (mine a b c) = omega arith
 before-none x y (yours a b c) = omega arith
 
 -- a pair is before the next of its row
-before-more : (m o x y : ℕ) → Before m (o + 1) x y → Before m o x y ⊎ BothTables m o x y
+before-more : (m o x y : ℕ) → DoneBefore m (o + 1) x y → DoneBefore m o x y ⊎ BothTables m o x y
 before-more m o x y (rows a b c d) = inl (rows a b c d)
 before-more m o x y (mine a b c) = go (ℕ-discrete y o)
   where
-    go : Dec (y ≡ o) → Before m o x y ⊎ BothTables m o x y
+    go : Dec (y ≡ o) → DoneBefore m o x y ⊎ BothTables m o x y
     go (yes q) = inr (inl (a, q))
     go (no q) = inl (mine a b (omega (arith, q)))
 before-more m o x y (yours a b c) = go (ℕ-discrete x o)
   where
-    go : Dec (x ≡ o) → Before m o x y ⊎ BothTables m o x y
+    go : Dec (x ≡ o) → DoneBefore m o x y ⊎ BothTables m o x y
     go (yes q) = inr (inr (q, c))
     go (no q) = inl (yours a (omega (arith, q)) c)
 
 -- a row ends with the pair (m, m)
-before-row : (m x y : ℕ) → Before (m + 1) 3 x y → Before m (m + 1) x y
+before-row : (m x y : ℕ) → DoneBefore (m + 1) 3 x y → DoneBefore m (m + 1) x y
 before-row m x y (rows a b c d) = go (ℕ-discrete x m) (ℕ-discrete y m)
   where
-    go : Dec (x ≡ m) → Dec (y ≡ m) → Before m (m + 1) x y
+    go : Dec (x ≡ m) → Dec (y ≡ m) → DoneBefore m (m + 1) x y
     go (yes p) q = mine p c d
     go (no p) (yes q) = yours a b q
     go (no p) (no q) = rows a (omega (arith, p)) c (omega (arith, q))
@@ -52,14 +53,14 @@ before-row m x y (mine a b c) = absurd (omega arith)
 before-row m x y (yours a b c) = absurd (omega arith)
 
 -- after row k every table is done
-before-all : (rings k x y : ℕ) → AllTables rings k x y → Before (k + 1) 3 x y
+before-all : (rings k x y : ℕ) → AllTables rings k x y → DoneBefore (k + 1) 3 x y
 before-all rings k x y t =
     let w = listed-table (8 * rings) k x y t in
     rows (w .mover-low) (omega (arith, w .mover-high)) (w .opponent-low) (omega (arith, w .opponent-high))
 
 module _ (rings k m o : ℕ) (pair : Pair rings k m o) (order : o ≤ m) where
   -- the tables before a pair are in range, and its lower tables are among them
-  before-range : (x y : ℕ) → Before m o x y → InRange k x y
+  before-range : (x y : ℕ) → DoneBefore m o x y → InRange k x y
   before-range x y (rows a b c d) = record {
     mover-low = a;
     mover-high = omega (arith, pair .mover-high);
@@ -79,51 +80,52 @@ module _ (rings k m o : ℕ) (pair : Pair rings k m o) (order : o ≤ m) where
     opponent-high = omega (arith, pair .mover-high);
   }
 
-  before-lower : (x y : ℕ) → LowerTables m o x y → Before m o x y
+  before-lower : (x y : ℕ) → LowerTables m o x y → DoneBefore m o x y
   before-lower x y (l, inl q) = yours l (omega (arith, q)) (q .1)
   before-lower x y (l, inr q) = go (ℕ-discrete o m)
     where
-      go : Dec (o ≡ m) → Before m o x y
+      go : Dec (o ≡ m) → DoneBefore m o x y
       go (yes e) = yours l (omega (arith, q)) (q .1 ∙ e)
       go (no e) = rows l (omega (arith, q)) (omega (arith, q, pair .opponent-low)) (omega (arith, q, e))
 
-  module _ (limit : ℕ) (before after : List ℕ) (done : TrueOn rings k limit (Before m o) before) where
+  module _ (limit : ℕ) (before after : List ℕ) (done : TrueOn rings k limit (DoneBefore m o) before) where
     -- the lower tables are done
     pub done-lower : LowerTrue rings k m o before
     done-lower x y r t = done .entries x y r (before-lower x y t)
 
-    pub done-pair : Filled rings k limit (BothTables m o) (λ b. pairSeed rings k m o before b) before after → TrueOn rings k limit (Before m (o + 1)) after
+    pub done-pair : Filled rings k limit (BothTables m o) (λ b. pairSeed rings k m o before b) before after
+        → TrueOn rings k limit (DoneBefore m (o + 1)) after
     done-pair f =
-        true-fewer rings k limit (λ x y. Before m o x y ⊎ BothTables m o x y) (Before m (o + 1)) after (before-more m o)
-        (true-more rings k m o pair limit (Before m o) before after before-range before-lower done f)
+        true-fewer rings k limit (λ x y. DoneBefore m o x y ⊎ BothTables m o x y) (DoneBefore m (o + 1)) after (before-more m o)
+        (true-more rings k m o pair limit (DoneBefore m o) before after before-range before-lower done f)
 
     pub deep-whole : TooDeep rings k limit (BothTables m o) (λ b. pairSeed rings k m o before b) before after → Beyond rings k limit
     deep-whole = deep-beyond rings k m o pair limit before after done-lower
 
 module _ (rings k limit : ℕ) (tablebase : List ℕ) where
-  pub done-first : TrueOn rings k limit (Before 3 3) tablebase
+  pub done-first : TrueOn rings k limit (DoneBefore 3 3) tablebase
   done-first = record { entries = λ x y r t. absurd (before-none x y t); within = λ x y r t. absurd (before-none x y t) }
 
   -- a pair whose stones do not fit the points has no position
-  done-unfit : (m o : ℕ) → 8 * rings < m + o → TrueOn rings k limit (Before m o) tablebase → TrueOn rings k limit (Before m (o + 1)) tablebase
+  done-unfit : (m o : ℕ) → 8 * rings < m + o → TrueOn rings k limit (DoneBefore m o) tablebase → TrueOn rings k limit (DoneBefore m (o + 1)) tablebase
   done-unfit m o l w = record {
     entries = λ x y r t h. w .entries x y r (old x y r h (before-more m o x y t)) h;
     within = λ x y r t h. w .within x y r (old x y r h (before-more m o x y t)) h;
   }
     where
-      old : (x y r : ℕ) → r < size (8 * rings) x y → Before m o x y ⊎ BothTables m o x y → Before m o x y
+      old : (x y r : ℕ) → r < size (8 * rings) x y → DoneBefore m o x y ⊎ BothTables m o x y → DoneBefore m o x y
       old x y r h (inl b) = b
       old x y r h (inr (inl q)) = absurd (omega (arith, size-over (8 * rings) x y (omega (arith, q))))
       old x y r h (inr (inr q)) = absurd (omega (arith, size-over (8 * rings) x y (omega (arith, q))))
 
-  pub done-row : (m : ℕ) → TrueOn rings k limit (Before m (m + 1)) tablebase → TrueOn rings k limit (Before (m + 1) 3) tablebase
-  done-row m = true-fewer rings k limit (Before m (m + 1)) (Before (m + 1) 3) tablebase (before-row m)
+  pub done-row : (m : ℕ) → TrueOn rings k limit (DoneBefore m (m + 1)) tablebase → TrueOn rings k limit (DoneBefore (m + 1) 3) tablebase
+  done-row m = true-fewer rings k limit (DoneBefore m (m + 1)) (DoneBefore (m + 1) 3) tablebase (before-row m)
 
-  pub done-all : TrueOn rings k limit (Before (k + 1) 3) tablebase → TrueOn rings k limit (AllTables rings k) tablebase
-  done-all = true-fewer rings k limit (Before (k + 1) 3) (AllTables rings k) tablebase (before-all rings k)
+  pub done-all : TrueOn rings k limit (DoneBefore (k + 1) 3) tablebase → TrueOn rings k limit (AllTables rings k) tablebase
+  done-all = true-fewer rings k limit (DoneBefore (k + 1) 3) (AllTables rings k) tablebase (before-all rings k)
 
 module _ (rings k : ℕ) where
-  in-order-true : (m o : ℕ) (tablebase : List ℕ) → InOrder rings k m o tablebase → TrueOn rings k voidEntry (Before m o) tablebase
+  in-order-true : (m o : ℕ) (tablebase : List ℕ) → InOrder rings k m o tablebase → TrueOn rings k voidEntry (DoneBefore m o) tablebase
   in-order-true m o tablebase (at-first t) = done-first rings k voidEntry t
   in-order-true m o tablebase (one-pair n p limit before after pair order w f) =
       done-pair rings k n p pair order voidEntry before after (in-order-true n p before w)

@@ -80,12 +80,12 @@ unfolding inPair
 pair-in {rings} {m} {o} {b} p e = record { values = p .values; points = p .points; counts = test-both m o (count 1 b) (count 2 b) e }
 
 -- a board that the pair's plies reach: of the pair, of a mover left with two stones, or of a lower table
-pub data Reached (rings m o : ℕ) (b : List ℕ) : Type 0 where
-  of-pair : InPair rings m o b → Reached rings m o b
-  two-left : inPair m o b ≡ false → count 1 b < 3 → Reached rings m o b
-  below : inPair m o b ≡ false → LowerTables m o (count 1 b) (count 2 b) → Reached rings m o b
+pub data PairReached (rings m o : ℕ) (b : List ℕ) : Type 0 where
+  of-pair : InPair rings m o b → PairReached rings m o b
+  two-left : inPair m o b ≡ false → count 1 b < 3 → PairReached rings m o b
+  below : inPair m o b ≡ false → LowerTables m o (count 1 b) (count 2 b) → PairReached rings m o b
 
-pub reached : {rings m o : ℕ} (b : List ℕ) → OnPair rings m o b → Reached rings m o b
+pub reached : {rings m o : ℕ} (b : List ℕ) → OnPair rings m o b → PairReached rings m o b
 reached {rings} {m} {o} b s = go (inPair m o b) refl (ltb (count 1 b) 3) refl
   where
     lies : inPair m o b ≡ false → 3 ≤ count 1 b → Counts m o (count 1 b) (count 2 b) → LowerTables m o (count 1 b) (count 2 b)
@@ -93,7 +93,7 @@ reached {rings} {m} {o} b s = go (inPair m o b) refl (ltb (count 1 b) 3) refl
     lies f l (lower e g) = (l, inl (e, g))
     lies f l (lower-turned e g) = (l, inr (e, g))
 
-    go : (a : Bool) → inPair m o b ≡ a → (c : Bool) → ltb (count 1 b) 3 ≡ c → Reached rings m o b
+    go : (a : Bool) → inPair m o b ≡ a → (c : Bool) → ltb (count 1 b) 3 ≡ c → PairReached rings m o b
     go true f c g = of-pair (pair-in s f)
     go false f true g = two-left f (ltb-true (count 1 b) 3 g)
     go false f false g = below f (lies f (ltb-false (count 1 b) 3 g) (s .counts))

@@ -18,13 +18,13 @@ use Rattle.game.specs.Judgement.{hit, visit}
 use Rattle.game.proofs.Tables.{Ground, Seeded}
 use Rattle.game.proofs.Hits.{visit-hit, visit-miss, visit-closed}
 use Rattle.game.proofs.Levels.{Within, one}
-use Rattle.outcomes.specs.Places.{place, entryAt, successorEntry}
+use Rattle.outcomes.specs.Places.{placeOf, entryAt, successorEntry}
 use Rattle.outcomes.specs.Whole.{next}
 use Rattle.outcomes.specs.Pair.{Pair, inPair, given, pairSeed, LowerTables, LowerValid}
 use Rattle.outcomes.specs.Filled.{BothTables, Kept}
 use Rattle.outcomes.proofs.Boards.{InTables, place-within}
 use Rattle.outcomes.proofs.Ranked.{own-table, rank-in, one-board}
-use Rattle.outcomes.proofs.PairGame.{OnPair, InPair, in-pair, pair-in, Reached, of-pair, two-left, below, reached, given-draw, given-ends}
+use Rattle.outcomes.proofs.PairGame.{OnPair, InPair, in-pair, pair-in, PairReached, of-pair, two-left, below, reached, given-draw, given-ends}
 use Rattle.outcomes.proofs.PairGame.{seed-in, seed-two, seed-given, stands, three-own, stands-own, pair-closed, live-in}
 use Rattle.outcomes.proofs.Entries.{entry-rank, entry-two, entry-three, written-here, written-elsewhere, kept-lower}
 
@@ -68,7 +68,7 @@ module _ (rings k m o : ℕ) (pair : Pair rings k m o) (before : List ℕ) (lowe
   pub pair-ground : Ground (next rings) (λ b. pairSeed rings k m o before b) (OnPair rings m o)
   pair-ground = record { closed = λ p s e q h. pair-closed rings k m o pair p (live-pair p s e) q h; given-low = λ q s e. low q s e (reached q s) }
     where
-      low : (q : List ℕ) {d : ℕ} → OnPair rings m o q → seed q ≡ ends d → Reached rings m o q → d < voidEntry
+      low : (q : List ℕ) {d : ℕ} → OnPair rings m o q → seed q ≡ ends d → PairReached rings m o q → d < voidEntry
       low q s e (of-pair i) = live-ends (sym (pair-live q i) ∙ e)
       low q {d} s e (two-left f l) = let z : 0 ≡ d = ends-same (sym (seed-two rings k m o before q f l) ∙ e) in omega arith
       low q {d} s e (below f t) = go (given-is (entryAt rings k before q) (valid q s t))
@@ -89,7 +89,7 @@ module _ (rings k m o : ℕ) (pair : Pair rings k m o) (before : List ℕ) (lowe
     pub pair-seeded : Seeded (next rings) (λ b. pairSeed rings k m o before b) (OnPair rings m o) (λ b. successorEntry rings k now b)
     pair-seeded = record { at-end = λ q s e. end q s e (reached q s); at-draw = λ q s e. draw q s e (reached q s) }
       where
-        end : (q : List ℕ) {d : ℕ} → OnPair rings m o q → seed q ≡ ends d → Reached rings m o q → successorEntry rings k now q ≡ d
+        end : (q : List ℕ) {d : ℕ} → OnPair rings m o q → seed q ≡ ends d → PairReached rings m o q → successorEntry rings k now q ≡ d
         end q s e (of-pair i) = live-ends (sym (pair-live q i) ∙ e)
         end q s e (two-left f l) = entry-two rings k now q l ∙ ends-same (sym (seed-two rings k m o before q f l) ∙ e)
         end q {d} s e (below f t) = go (given-is (entryAt rings k before q) (valid q s t))
@@ -102,7 +102,7 @@ module _ (rings k m o : ℕ) (pair : Pair rings k m o) (before : List ℕ) (lowe
             go (inl y) = lower-entry q s f (t .0) ∙ ends-same (sym (y .0) ∙ x)
             go (inr y) = drawn-ends (sym (y .0) ∙ x)
 
-        draw : (q : List ℕ) → OnPair rings m o q → seed q ≡ drawn → Reached rings m o q → successorEntry rings k now q ≡ drawEntry
+        draw : (q : List ℕ) → OnPair rings m o q → seed q ≡ drawn → PairReached rings m o q → successorEntry rings k now q ≡ drawEntry
         draw q s e (of-pair i) = live-drawn (sym (pair-live q i) ∙ e)
         draw q s e (two-left f l) = drawn-ends (sym e ∙ seed-two rings k m o before q f l)
         draw q s e (below f t) = go (given-is (entryAt rings k before q) (valid q s t))
@@ -128,7 +128,7 @@ module _ (rings k m o : ℕ) (pair : Pair rings k m o) (before : List ℕ) (lowe
     stand = stands-own rings k m o pair p i
 
     abbrev written : List ℕ
-    written = set now (place rings k p) n
+    written = set now (placeOf rings k p) n
 
     -- the place of p is written, and no other
     elsewhere : (q : List ℕ) → OnPair rings m o q → (q ≡ p → ⊥) → seen written q ≡ seen now q
@@ -144,11 +144,11 @@ module _ (rings k m o : ℕ) (pair : Pair rings k m o) (before : List ℕ) (lowe
 
     -- boards of the pair are told apart by their places
     same : (q : List ℕ) → InPair rings m o q → (q ≡ p) ⊎ (q ≡ p → ⊥)
-    same q j = apart (ℕ-discrete (place rings k q) (place rings k p))
+    same q j = apart (ℕ-discrete (placeOf rings k q) (placeOf rings k p))
       where
-        apart : Dec (place rings k q ≡ place rings k p) → (q ≡ p) ⊎ (q ≡ p → ⊥)
+        apart : Dec (placeOf rings k q ≡ placeOf rings k p) → (q ≡ p) ⊎ (q ≡ p → ⊥)
         apart (yes e) = inl (one-board rings k q p (stands-own rings k m o pair q j) stand e)
-        apart (no d) = inr (λ e. d (ap (place rings k) e))
+        apart (no d) = inr (λ e. d (ap (placeOf rings k) e))
 
     module _ (D : List ℕ → Type 0) (w : Amid n D now) where
       more : (after : List ℕ) → ((q : List ℕ) → OnPair rings m o q → (q ≡ p → ⊥) → seen after q ≡ seen now q)

@@ -11,15 +11,15 @@ use Rattle.board.specs.Board.{count}
 use Rattle.sizes.specs.Size.{size}
 use Rattle.ranking.specs.Unrank.{unrank}
 use Rattle.layout.specs.Layout.{start}
-use Rattle.game.specs.Game.{Seed, ended}
+use Rattle.game.specs.Game.{Entry, Seed, ended}
 use Rattle.game.proofs.Compose.{Faithful, both-live, true-depth, true-draw, same-seed, same-ended, entry-back}
 use Rattle.outcomes.specs.Places.{entryAt}
 use Rattle.outcomes.specs.Whole.{next, wholeSeed, TrueEntry}
-use Rattle.outcomes.specs.Pair.{Pair, inPair, pairSeed, PairEntry, LowerTables, LowerValid}
+use Rattle.outcomes.specs.Pair.{Pair, inPair, pairSeed, LowerTables, LowerValid}
 use Rattle.outcomes.specs.Filled.{BothTables, Filled, TooDeep}
 use Rattle.outcomes.specs.Order.{TrueEntries}
 use Rattle.outcomes.proofs.Ranked.{unrank-in}
-use Rattle.outcomes.proofs.PairGame.{OnPair, on-pair, pair-table, Reached, of-pair, two-left, below, reached}
+use Rattle.outcomes.proofs.PairGame.{OnPair, on-pair, pair-table, PairReached, of-pair, two-left, below, reached}
 use Rattle.outcomes.proofs.PairGame.{given-draw, given-ends, seed-two, seed-given, stands, three-own}
 use Rattle.outcomes.proofs.WholeGame.{whole-two, whole-live, table-true}
 use Rattle.outcomes.proofs.PairLevels.{Valid, pair-live, pair-ground}
@@ -58,7 +58,7 @@ module _ (rings k m o : ℕ) (pair : Pair rings k m o) (before : List ℕ) (low 
           true-depth (entryAt rings k before b) (seed-given rings k m o before b f l ∙ given-ends (entryAt rings k before b) (λ q. omega (arith, a .0))) (a .1)
       lower-true f l (inr a) = true-draw (seed-given rings k m o before b f l ∙ given-draw (entryAt rings k before b) (a .0)) (a .1)
 
-      go : Reached rings m o b → Faithful (next rings) (λ c. wholeSeed c) (λ c. seed c) b
+      go : PairReached rings m o b → Faithful (next rings) (λ c. wholeSeed c) (λ c. seed c) b
       go (of-pair i) = both-live (whole-live b (three-own rings k m o pair b i)) (pair-live rings k m o pair before valid b i)
       go (two-left f l) = same-seed (next rings) (λ c. wholeSeed c) (λ c. seed c) b (seed-two rings k m o before b f l ∙ sym (whole-two b l))
       go (below f t) = lower-true f (t .0) (entry-true b s t)
@@ -67,7 +67,7 @@ module _ (rings k m o : ℕ) (pair : Pair rings k m o) (before : List ℕ) (low 
   ended-same : (n : ℕ) (b : List ℕ) → OnPair rings m o b → ended (next rings) (λ c. wholeSeed c) n b ≡ ended (next rings) (λ c. seed c) n b
   ended-same = same-ended (next rings) (λ c. wholeSeed c) (λ c. seed c) (OnPair rings m o) (pair-ground rings k m o pair before valid .closed) faithful
 
-  entry-same : (b : List ℕ) (e : ℕ) → OnPair rings m o b → PairEntry rings k m o before b e → TrueEntry rings b e
+  entry-same : (b : List ℕ) (e : ℕ) → OnPair rings m o b → Entry (next rings) (λ c. seed c) b e → TrueEntry rings b e
   entry-same = entry-back (next rings) (λ c. wholeSeed c) (λ c. seed c) (OnPair rings m o) (pair-ground rings k m o pair before valid .closed) faithful
 
   ranked : (x y r : ℕ) → BothTables m o x y → r < size (8 * rings) x y → OnPair rings m o (unrank (8 * rings) x y r)

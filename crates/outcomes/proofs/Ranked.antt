@@ -12,7 +12,7 @@ use Rattle.ranking.specs.Unrank.{unrank}
 use Rattle.ranking.proofs.Inverse.{rank-unrank, unrank-rank, rank-one, rank-low}
 use Rattle.layout.specs.Layout.{start}
 use Rattle.layout.proofs.OneToOne.{InRange, PlaceOf, place-one}
-use Rattle.outcomes.specs.Places.{place}
+use Rattle.outcomes.specs.Places.{placeOf}
 use Rattle.outcomes.proofs.Boards.{InTables, place-of}
 
 -- a board of table (x, y)
@@ -27,11 +27,11 @@ unrank-in rings x y r h = let w = rank-unrank (8 * rings) x y r h in
     record { values = w .values; points = w .points; mover = w .mover; opponent = w .opponent }
 
 -- the place of a board, by its table and its rank
-pub place-at : (rings k x y : ℕ) (b : List ℕ) → InTable rings x y b → place rings k b ≡ start (8 * rings) k x y + rank b
-unfolding place
+pub place-at : (rings k x y : ℕ) (b : List ℕ) → InTable rings x y b → placeOf rings k b ≡ start (8 * rings) k x y + rank b
+unfolding placeOf
 place-at rings k x y b w = rw (w .mover, w .opponent)
 
-pub place-unrank : (rings k x y r : ℕ) → r < size (8 * rings) x y → place rings k (unrank (8 * rings) x y r) ≡ start (8 * rings) k x y + r
+pub place-unrank : (rings k x y r : ℕ) → r < size (8 * rings) x y → placeOf rings k (unrank (8 * rings) x y r) ≡ start (8 * rings) k x y + r
 place-unrank rings k x y r h =
     place-at rings k x y (unrank (8 * rings) x y r) (unrank-in rings x y r h)
     ∙ ap (λ (s : ℕ). start (8 * rings) k x y + s) (rank-unrank (8 * rings) x y r h .rank-is)
@@ -68,7 +68,7 @@ module _ (rings k : ℕ) where
   own-table b s = record { values = s .values; points = s .points; mover = refl; opponent = refl }
 
   -- two boards of a tablebase at one place are one board
-  pub one-board : (b c : List ℕ) → InTables rings k b → InTables rings k c → place rings k b ≡ place rings k c → b ≡ c
+  pub one-board : (b c : List ℕ) → InTables rings k b → InTables rings k c → placeOf rings k b ≡ placeOf rings k c → b ≡ c
   one-board b c s t e =
       let q = place-one (8 * rings) k (place-of rings k b s) (subst (PlaceOf (8 * rings) k (count 1 c) (count 2 c) (rank c)) (sym e) (place-of rings k c t)) in
       rank-one b c (s .values) (t .values) (s .points ∙ sym (t .points)) (q .0) (q .1) (q .2)

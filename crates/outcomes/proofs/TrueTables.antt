@@ -18,7 +18,8 @@ use Rattle.game.proofs.Entries.{entry-ended}
 use Rattle.outcomes.specs.Whole.{next, wholeSeed, TrueEntry}
 use Rattle.outcomes.specs.Pair.{Pair, pairSeed, LowerTables}
 use Rattle.outcomes.specs.Filled.{AllTables, BothTables, Kept, Filled, TooDeep}
-use Rattle.outcomes.specs.Order.{WithinLimit, TrueOn, Beyond}
+use Rattle.outcomes.specs.Order.{Beyond}
+use Rattle.outcomes.specs.Inner.Done.{WithinLimit, TrueOn}
 use Rattle.outcomes.proofs.Ranked.{unrank-in, unrank-stands}
 use Rattle.outcomes.proofs.PairGame.{both-or-not}
 use Rattle.outcomes.proofs.Entries.{entry-unrank, kept-standing, pair-stands}

@@ -10,7 +10,7 @@ use lib.Seq.{ext-getD}
 use Rattle.sizes.specs.Size.{size}
 use Rattle.ranking.specs.Unrank.{unrank}
 use Rattle.layout.specs.Layout.{start, tablebaseLength}
-use Rattle.layout.proofs.OneToOne.{Placed, place-found, table-listed}
+use Rattle.layout.proofs.OneToOne.{SomePlace, place-found, table-listed}
 use Rattle.game.specs.Game.{Seed, Entry}
 use Rattle.game.proofs.Depths.{entry-unique}
 use Rattle.outcomes.specs.Whole.{next}
@@ -25,7 +25,7 @@ module _ (rings k : ℕ) (seed : List ℕ → Seed) where
   pub entries-one : (a b : List ℕ) → length a ≡ tablebaseLength (8 * rings) k → length b ≡ tablebaseLength (8 * rings) k → Entries a → Entries b → a ≡ b
   entries-one a b n n′ f g = ext-getD 0 a b (n ∙ sym n′) (λ i h. at i (place-found (8 * rings) k i (omega arith)))
     where
-      at : (i : ℕ) → Placed (8 * rings) k i → getD a i 0 ≡ getD b i 0
+      at : (i : ℕ) → SomePlace (8 * rings) k i → getD a i 0 ≡ getD b i 0
       at i p =
           let w = p .place in
           let t = table-listed (8 * rings) k (p .mover) (p .opponent) (w .is-table) in

@@ -3,3 +3,4 @@ pub mod Places
 pub mod Pair
 pub mod Filled
 pub mod Order
+pub mod Inner

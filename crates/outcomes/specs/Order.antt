@@ -1,5 +1,5 @@
--- Pairs filled in order: rows m = 3, 4, .., and in a row o = 3, .., m, so that the lower tables of a pair are done before it. What is true of the
--- tables done so far, and what it is for a tablebase to be filled pair by pair. Assumes nothing.
+-- Pairs filled in order: rows m = 3, 4, .., and in a row o = 3, .., m, so that the lower tables of a pair are done before it. What it is
+-- for tables to hold true entries, and for a tablebase to be filled pair by pair. Assumes nothing.
 use mathlib.Core.Path.{_≡_}
 use mathlib.Core.Bool.{true, false}
 use mathlib.Core.List.{List}
@@ -18,16 +18,6 @@ abbrev pub TrueEntries : ℕ → ℕ → (ℕ → ℕ → Type 0) → List ℕ �
 TrueEntries rings k T tablebase = (x y r : ℕ) → T x y → r < size (8 * rings) x y
     → TrueEntry rings (unrank (8 * rings) x y r) (getD tablebase (start (8 * rings) k x y + r) 0)
 
--- none of their positions has a forced end beyond the limit
-abbrev pub WithinLimit : ℕ → ℕ → (ℕ → ℕ → Type 0) → Type 0
-WithinLimit rings limit T = (x y r : ℕ) → T x y → r < size (8 * rings) x y → (n : ℕ)
-    → ended (next rings) (λ c. wholeSeed c) n (unrank (8 * rings) x y r) ≡ true
-    → ended (next rings) (λ c. wholeSeed c) limit (unrank (8 * rings) x y r) ≡ true
-
-pub record TrueOn (rings k limit : ℕ) (T : ℕ → ℕ → Type 0) (tablebase : List ℕ) : Type 0 where
-  pub entries : TrueEntries rings k T tablebase
-  pub within : WithinLimit rings limit T
-
 -- some position of the whole tablebase has a forced end beyond the limit
 pub record Beyond (rings k limit : ℕ) : Type 0 where
   pub mover : ℕ
@@ -38,12 +28,6 @@ pub record Beyond (rings k limit : ℕ) : Type 0 where
   pub plies : ℕ
   pub forced : ended (next rings) (λ c. wholeSeed c) plies (unrank (8 * rings) mover opponent rank) ≡ true
   pub beyond : ended (next rings) (λ c. wholeSeed c) limit (unrank (8 * rings) mover opponent rank) ≡ false
-
--- the tables done before pair (m, o): those of earlier rows, and those of row m with fewer than o, either way round
-pub data Before (m o x y : ℕ) : Type 0 where
-  rows : 3 ≤ x → x < m → 3 ≤ y → y < m → Before m o x y
-  mine : x ≡ m → 3 ≤ y → y < o → Before m o x y
-  yours : 3 ≤ x → x < o → y ≡ m → Before m o x y
 
 -- a tablebase filled pair by pair, pair (m, o) being next: it begins as any tablebase, each pair is filled over the entries so far with a limit of its
 -- own, and a pair whose stones do not fit the points has no position to fill

@@ -10,9 +10,8 @@ use lib.ListN.{getD}
 use Rattle.board.specs.Board.{count}
 use Rattle.sizes.specs.Size.{size}
 use Rattle.layout.specs.Layout.{start}
-use Rattle.game.specs.Game.{Seed, live, ends, drawn, drawEntry, voidEntry, Entry}
+use Rattle.game.specs.Game.{Seed, live, ends, drawn, drawEntry, voidEntry}
 use Rattle.outcomes.specs.Places.{entryAt}
-use Rattle.outcomes.specs.Whole.{next}
 
 -- counts of a pair of tables of largest count k, on one, two or three rings
 pub record Pair (rings k m o : ℕ) : Type 0 where
@@ -36,10 +35,6 @@ pairSeed rings k m o tablebase b = elim (inPair m o b) [
   | true ↦ live
   | false ↦ elim (ltb (count 1 b) 3) [ true ↦ ends 0 | false ↦ given (entryAt rings k tablebase b) ]
 ]
-
--- the entry of a board in the pair's game over a tablebase
-abbrev pub PairEntry : ℕ → ℕ → ℕ → ℕ → List ℕ → List ℕ → ℕ → Type 0
-PairEntry rings k m o tablebase b e = Entry (next rings) (λ c. pairSeed rings k m o tablebase c) b e
 
 -- the lower tables (o - 1, m) and (m - 1, o), "where these counts are at least 3"
 abbrev pub LowerTables : ℕ → ℕ → ℕ → ℕ → Type 0

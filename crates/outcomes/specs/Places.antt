@@ -13,11 +13,11 @@ use Rattle.layout.specs.Layout.{start}
 use Rattle.game.specs.Game.{voidEntry}
 use Rattle.outcomes.specs.Whole.{next}
 
-unfoldable pub place : ℕ → ℕ → List ℕ → ℕ
-place rings k b = start (8 * rings) k (count 1 b) (count 2 b) + rank b
+unfoldable pub placeOf : ℕ → ℕ → List ℕ → ℕ
+placeOf rings k b = start (8 * rings) k (count 1 b) (count 2 b) + rank b
 
 unfoldable pub entryAt : ℕ → ℕ → List ℕ → List ℕ → ℕ
-entryAt rings k tablebase b = getD tablebase (place rings k b) 0
+entryAt rings k tablebase b = getD tablebase (placeOf rings k b) 0
 
 -- the entry by which a successor is judged: "0 for a side with two stones"
 unfoldable pub successorEntry : ℕ → ℕ → List ℕ → List ℕ → ℕ

@@ -10,15 +10,16 @@ use lib.ListN.{length, getD, drop, length-drop}
 use lib.Seq.{getD-take, getD-drop, length-take-le}
 use borrow.Author.Tests.{leb-true, leb-false, le-leb, lt-leb, ltb-true, ltb-false, lt-ltb, le-ltb}
 use Rattle.game.specs.Game.{voidEntry}
-use Rattle.parts.specs.Parts.{partOf, lower, leastFrom}
+use Rattle.parts.specs.Parts.{partOf}
+use Rattle.parts.specs.Inner.Finding.{nearer, leastFrom}
 
 -- one entry more: it is the new least, or it is not below it where it counts
 data Lower (least e low : ℕ) : ℕ → Type 0 where
   taken : low ≤ e → e < least → Lower least e low e
   kept : (low ≤ e → least ≤ e) → Lower least e low least
 
-lowered : (least e low : ℕ) → Lower least e low (lower least e low)
-unfolding lower
+lowered : (least e low : ℕ) → Lower least e low (nearer least e low)
+unfolding nearer
 lowered least e low = go (leb low e) refl (ltb e least) refl
   where
     go : (a : Bool) → leb low e ≡ a → (b : Bool) → ltb e least ≡ b → Lower least e low (elim (leb low e && ltb e least) [ true ↦ e | false ↦ least ])
@@ -28,27 +29,27 @@ lowered least e low = go (leb low e) refl (ltb e least) refl
 
 -- the same by the difference from `low`, which wraps round below it
 module _ (low above e d : ℕ) (small : low + above ≤ voidEntry) (fits : d < 65536) (wraps : (d + low) % 65536 ≡ e) where
-  pub nearer-taken : d < above → low + d ≡ lower (low + above) e low
-  unfolding lower
-  nearer-taken h = rw (le-leb low e (omega arith), lt-ltb e (low + above) (omega arith), lower) (omega arith)
+  pub nearer-taken : d < above → low + d ≡ nearer (low + above) e low
+  unfolding nearer
+  nearer-taken h = rw (le-leb low e (omega arith), lt-ltb e (low + above) (omega arith), nearer) (omega arith)
 
-  pub nearer-kept : above ≤ d → low + above ≡ lower (low + above) e low
-  unfolding lower
+  pub nearer-kept : above ≤ d → low + above ≡ nearer (low + above) e low
+  unfolding nearer
   nearer-kept h = go (ltb (d + low) 65536) refl
     where
-      go : (b : Bool) → ltb (d + low) 65536 ≡ b → low + above ≡ lower (low + above) e low
+      go : (b : Bool) → ltb (d + low) 65536 ≡ b → low + above ≡ nearer (low + above) e low
       go true f =
           let l = ltb-true (d + low) 65536 f in
-          rw (le-leb low e (omega arith), le-ltb e (low + above) (omega arith), lower)
+          rw (le-leb low e (omega arith), le-ltb e (low + above) (omega arith), nearer)
       go false f =
           let l = ltb-false (d + low) 65536 f in
-          rw (lt-leb low e (omega arith), lower)
+          rw (lt-leb low e (omega arith), nearer)
 
 -- the least is void, or from `low` on and below void
 pub least-cases : (low : ℕ) (l : List ℕ) → (leastFrom low l ≡ voidEntry) ⊎ ((low ≤ leastFrom low l) × (leastFrom low l < voidEntry))
 unfolding leastFrom
 least-cases low [] = inl refl
-least-cases low (e ∷ es) = go (lower (leastFrom low es) e low) (lowered (leastFrom low es) e low) (least-cases low es)
+least-cases low (e ∷ es) = go (nearer (leastFrom low es) e low) (lowered (leastFrom low es) e low) (least-cases low es)
   where
     go : (v : ℕ) → Lower (leastFrom low es) e low v → (leastFrom low es ≡ voidEntry) ⊎ ((low ≤ leastFrom low es) × (leastFrom low es < voidEntry))
         → (v ≡ voidEntry) ⊎ ((low ≤ v) × (v < voidEntry))
@@ -67,7 +68,7 @@ pub least-none : (low : ℕ) → leastFrom low [] ≡ voidEntry
 unfolding leastFrom
 least-none low = refl
 
-pub least-more : (low e : ℕ) (es : List ℕ) → leastFrom low (e ∷ es) ≡ lower (leastFrom low es) e low
+pub least-more : (low e : ℕ) (es : List ℕ) → leastFrom low (e ∷ es) ≡ nearer (leastFrom low es) e low
 unfolding leastFrom
 least-more low e es = refl
 
@@ -75,13 +76,13 @@ least-more low e es = refl
 least-below : (low : ℕ) (l : List ℕ) (j : ℕ) → j < length l → low ≤ getD l j 0 → leastFrom low l ≤ getD l j 0 ⊎ (voidEntry ≤ getD l j 0)
 unfolding leastFrom
 least-below low [] j h g = absurd (omega arith)
-least-below low (e ∷ es) zero h g = go (lower (leastFrom low es) e low) (lowered (leastFrom low es) e low)
+least-below low (e ∷ es) zero h g = go (nearer (leastFrom low es) e low) (lowered (leastFrom low es) e low)
   where
     go : (v : ℕ) → Lower (leastFrom low es) e low v → (v ≤ e) ⊎ (voidEntry ≤ e)
     go v (taken a b) = inl (omega arith)
     go v (kept a) = inl (a g)
 least-below low (e ∷ es) (suc j) h g =
-    go (lower (leastFrom low es) e low) (lowered (leastFrom low es) e low) (least-below low es j (omega arith) g)
+    go (nearer (leastFrom low es) e low) (lowered (leastFrom low es) e low) (least-below low es j (omega arith) g)
   where
     go : (v : ℕ) → Lower (leastFrom low es) e low v → (leastFrom low es ≤ getD es j 0) ⊎ (voidEntry ≤ getD es j 0) → (v ≤ getD es j 0) ⊎ (voidEntry ≤ getD es j 0)
     go v (taken a b) (inl q) = inl (omega arith)

@@ -6,7 +6,7 @@ use Prim.Native.Nat.{ℕ, zero, suc, _+_, _≤_, _<_}
 use native.Mathlib.Decide.{ℕ-discrete}
 use native.Mathlib.Omega.{arith}
 use Rattle.lists.proofs.Tests.{or-left, or-right}
-use Rattle.parts.specs.Finding.{isAt, occurs}
+use Rattle.parts.specs.Inner.Finding.{isAt, occurs}
 
 or-assoc : (a b c : Bool) → ((a || b) || c) ≡ (a || (b || c))
 or-assoc true b c = refl

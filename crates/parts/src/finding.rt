@@ -2,7 +2,7 @@
 ghost use mathlib.Core.Path.{_≡_};
 ghost use Prim.Native.Nat.{_+_, _≤_, _<_};
 ghost use lib.ListN.{length};
-ghost use Rattle.parts.specs.Finding.{First, Passed, isAt, occurs};
+ghost use Rattle.parts.specs.Inner.Finding.{First, NoneBefore, isAt, occurs};
 
 // Whether v is one of the two entries from place i on.
 fn in_two(tablebase: &[u16], i: usize, v: u16) -> bool
@@ -36,7 +36,7 @@ fn in_sixteen(tablebase: &[u16], i: usize, v: u16) -> bool
 // A place from `from` on and at most `end` before which v does not occur: sixteen entries with v come next, or fewer than sixteen are left.
 fn pass(tablebase: &[u16], from: usize, end: usize, v: u16) -> usize
     requires { ⌜ (from ≤ end) × (end ≤ length (now tablebase)) ⌝ }
-    ensures { λ r. ⌜ Passed (isAt v (now (tablebase .entry))) from end r ⌝ }
+    ensures { λ r. ⌜ NoneBefore (isAt v (now (tablebase .entry))) from end r ⌝ }
 {
     let mut i = from;
     while 16 <= end - i {

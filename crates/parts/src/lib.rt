@@ -9,13 +9,19 @@ ghost use lib.Dec.{eqb};
 ghost use lib.ListN.{length, getD, set, replicate};
 ghost use Rattle.lists.specs.Lists.{any};
 ghost use Rattle.game.specs.Game.{drawEntry, voidEntry};
-ghost use Rattle.parts.specs.Parts.{partOf, filledPart, lower, leastFrom};
+ghost use Rattle.parts.specs.Parts.{partOf, filledPart};
+ghost use Rattle.parts.specs.Inner.Finding.{nearer, leastFrom};
 
 // The entry of a draw, and of a position that is open while its table is filled.
 pub const DRAW: u16 = 65535;
 
 // The entry of a position that is not to be used.
 pub const VOID: u16 = 65534;
+
+// Both as numbers that are added to.
+pub const DRAW_WIDE: u32 = DRAW as u32;
+
+pub const VOID_WIDE: u32 = VOID as u32;
 
 // The places of a tablebase from start on and below end: one table's.
 pub struct Part {
@@ -91,7 +97,7 @@ pub fn mark_entry(tablebase: &mut [u16], part: Part, r: usize)
 // How far an entry lies above `low`, if that is less than `above`. Entries below `low` wrap round and lie far above.
 fn nearer(above: u16, e: u16, low: u16) -> u16
     requires { ⌜ low + above ≤ voidEntry ⌝ }
-    ensures { λ r. ⌜ low + r ≡ lower (low + above) e low ⌝ }
+    ensures { λ r. ⌜ low + r ≡ nearer (low + above) e low ⌝ }
 {
     let d = std::num::wrapping_sub_u16(e, low);
     if d < above {

@@ -12,7 +12,7 @@ use Rattle.board.proofs.Sides.{length-board, board-values, board-position, posi
 use Rattle.rules.specs.Ply.{removable, removedOf, listedMoves, afterPly}
 use Rattle.rules.proofs.Listed.{removable-takes}
 use Rattle.rules.proofs.Leads.{Leads, ply-leads}
-use Rattle.plies.specs.Positions.{Placed}
+use Rattle.plies.specs.Inner.Positions.{Placed}
 
 -- a board as a position
 module _ (rings : ℕ) (small : rings ≤ 3) (b : List ℕ) (values : Values b) (points : length b ≡ 8 * rings) where

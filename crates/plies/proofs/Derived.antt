@@ -10,10 +10,9 @@ use lib.ListN.{length, getD, replicate}
 use borrow.Author.Tests.{eqb-true}
 use Rattle.lists.proofs.Table.{everyTwo, every-two}
 use Rattle.sets.specs.Sets.{withAll, setFrom}
-use Rattle.board.specs.Geometry.{ringMills, crossMills, mills}
+use Rattle.board.specs.Geometry.{ringMills, crossMills, mills, millsThrough}
 use Rattle.board.specs.Tables.{millPoint}
-use Rattle.plies.specs.Masks.{millsThrough}
-use Rattle.plies.specs.Placing.{placed, millPlaced, millsPlaced}
+use Rattle.plies.specs.Inner.Placing.{placed, millPlaced, millsPlaced}
 
 -- the mills of a board, each at its points
 abbrev pub derived : ℕ → List ℕ

@@ -5,4 +5,4 @@ pub mod Movable
 pub mod Numbers
 pub mod OnPositions
 pub mod SomeMove
-pub mod Stones
+pub mod StoneMoves

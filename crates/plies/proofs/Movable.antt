@@ -11,9 +11,10 @@ use Rattle.sets.specs.Sets.{elements, setFrom}
 use Rattle.sets.proofs.Elements.{from-lt, elements-none, elements-lowest}
 use Rattle.board.specs.declared.position.Position.{Position}
 use Rattle.board.specs.Board.{boardOf}
-use Rattle.rules.specs.Ply.{holds, inMill, targets, slide, removable, noRemoval, removals, slideMoves, listedFrom, listedMoves}
-use Rattle.rules.proofs.Listed.{target-vacant, removals-without, removals-with}
-use Rattle.plies.specs.Positions.{Placed}
+use Rattle.rules.specs.Ply.{holds, inMill, destinations, slide, removable, noRemoval, removals, slideMoves, listedMoves}
+use Rattle.plies.specs.Inner.Listing.{listedFrom}
+use Rattle.rules.proofs.Listed.{destination-vacant, removals-without, removals-with}
+use Rattle.plies.specs.Inner.Positions.{Placed}
 use Rattle.plies.proofs.SomeMove.{some-stone, some-move}
 
 -- document 01's rule
@@ -47,14 +48,14 @@ slide-some rings b from to =
 -- a stone has a move
 abbrev pub movable : ℕ → Position → ℕ → Bool
 movable rings position from =
-    some (listedFrom rings (boardOf (8 * rings) position) from (targets rings (boardOf (8 * rings) position) from))
+    some (listedFrom rings (boardOf (8 * rings) position) from (destinations rings (boardOf (8 * rings) position) from))
 
 module _ (rings : ℕ) (position : Position) (placed : Placed rings position) where
   abbrev board : List ℕ
   board = boardOf (8 * rings) position
 
   -- it does where it can go somewhere
-  module _ (from tos : ℕ) (e : tos ≡ setFrom (targets rings board from)) where
+  module _ (from tos : ℕ) (e : tos ≡ setFrom (destinations rings board from)) where
     movable-is : some (elements 32 tos) ≡ movable rings position from
     movable-is =
         any-same (λ to. true) (λ to. some (slideMoves rule rings board from to)) (elements 32 tos) (λ to m. sym (slide-some rings board from to))
@@ -64,7 +65,7 @@ module _ (rings : ℕ) (position : Position) (placed : Placed rings position) wh
     stone-stuck z = sym movable-is ∙ ap (λ (s : ℕ). some (elements 32 s)) z ∙ ap some (elements-none 32)
 
     tos-fits : tos < 2 ^ 32
-    tos-fits = rw e (from-lt 32 (targets rings board from) (λ p m. omega (arith, target-vacant rings board from p m .0, placed .small)))
+    tos-fits = rw e (from-lt 32 (destinations rings board from) (λ p m. omega (arith, destination-vacant rings board from p m .0, placed .small)))
 
     pub stone-free : (tos ≡ 0 → ⊥) → movable rings position from ≡ true
     stone-free n = sym movable-is ∙ ap some (elements-lowest tos tos-fits n)

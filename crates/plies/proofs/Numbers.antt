@@ -17,9 +17,9 @@ use Rattle.board.specs.Board.{Values, digit, setOf, positionOf, boardOf}
 use Rattle.board.proofs.Sides.{length-board, board-values, bit-set, position-sides}
 use Rattle.board.proofs.Stores.{set-without}
 use Rattle.board.proofs.OneToOne.{mover-set, opponent-set, mover-at, mover-bit}
-use Rattle.rules.specs.Ply.{targets, slide, removable, removals, moveNumber, fromOf, toOf, removedOf, moves, remove, afterPly}
-use Rattle.plies.specs.Positions.{Placed}
-use Rattle.rules.proofs.Listed.{Move, move-of, of-move, removable-takes, target-of, of-target, target-vacant}
+use Rattle.rules.specs.Ply.{destinations, slide, removable, removals, moveNumber, fromOf, toOf, removedOf, moves, remove, afterPly}
+use Rattle.plies.specs.Inner.Positions.{Placed}
+use Rattle.rules.proofs.Listed.{Move, move-of, of-move, removable-takes, destination-of, of-destination, destination-vacant}
 use Rattle.rules.proofs.Leads.{Removed, listed-parts, removed-of, removed-before, after-parts, remove-none, remove-one}
 use Rattle.rules.proofs.OnSets.{slide-mover, slide-opponent, exchange-sets}
 use Rattle.plies.proofs.OnPositions.{opponent-small}
@@ -28,22 +28,22 @@ use Rattle.plies.proofs.OnPositions.{opponent-small}
 abbrev rule : ℕ → List ℕ → List ℕ
 rule rings b = removable rings b
 
--- a stone of the mover's, one of its targets and one of the removals make a listed move
+-- a stone of the mover's, one of its destinations and one of the removals make a listed move
 pub number-listed : (rings : ℕ) (position : Position) → Placed rings position → (from to removed : ℕ) → bit (position .mover) from ≡ 1
-    → bit (setFrom (targets rings (boardOf (8 * rings) position) from)) to ≡ 1
+    → bit (setFrom (destinations rings (boardOf (8 * rings) position) from)) to ≡ 1
     → bit (setFrom (removals rule rings (slide (boardOf (8 * rings) position) from to) to)) removed ≡ 1
     → member (moveNumber from to removed) (moves rule rings (boardOf (8 * rings) position)) ≡ true
 number-listed rings position placed from to removed f t r =
     let b : List ℕ = boardOf (8 * rings) position in
     let own = mover-at (8 * rings) position (placed .on) from f in
-    let m = from-bit (targets rings b from) to t in
-    let v = target-vacant rings b from to m in
+    let m = from-bit (destinations rings b from) to t in
+    let v = destination-vacant rings b from to m in
     is-member (moveNumber from to removed) _ (of-move rule rings b from to removed record {
       from-low = own .0;
       to-low = v .0;
       own = own .1;
       vacant = v .1;
-      reach = target-of rings b from to m;
+      reach = destination-of rings b from to m;
       removal = from-bit (removals rule rings (slide b from to) to) removed r;
     })
 
@@ -71,15 +71,15 @@ module _ (rings : ℕ) (position : Position) (placed : Placed rings position) (n
   pub from-listed : member n (moves rule rings board) ≡ true → bit (position .mover) (fromOf n) ≡ 1
   from-listed e = let v = parts (member-is n _ e) in mover-bit (8 * rings) position (placed .on) (fromOf n) (v .from-low) (v .own)
 
-  pub to-listed : member n (moves rule rings board) ≡ true → bit (setFrom (targets rings board (fromOf n))) (toOf n) ≡ 1
+  pub to-listed : member n (moves rule rings board) ≡ true → bit (setFrom (destinations rings board (fromOf n))) (toOf n) ≡ 1
   to-listed e = let v = parts (member-is n _ e) in
-      bit-from (targets rings board (fromOf n)) (toOf n) (of-target rings board (fromOf n) (toOf n) (v .to-low) (v .vacant) (v .reach))
+      bit-from (destinations rings board (fromOf n)) (toOf n) (of-destination rings board (fromOf n) (toOf n) (v .to-low) (v .vacant) (v .reach))
 
   pub removed-listed : member n (moves rule rings board) ≡ true
       → bit (setFrom (removals rule rings (slide board (fromOf n) (toOf n)) (toOf n))) (removedOf n) ≡ 1
   removed-listed e = let v = parts (member-is n _ e) in bit-from _ (removedOf n) (v .removal)
 
-  pub all-listed : bit (position .mover) (fromOf n) ≡ 1 → bit (setFrom (targets rings board (fromOf n))) (toOf n) ≡ 1
+  pub all-listed : bit (position .mover) (fromOf n) ≡ 1 → bit (setFrom (destinations rings board (fromOf n))) (toOf n) ≡ 1
       → bit (setFrom (removals rule rings (slide board (fromOf n) (toOf n)) (toOf n))) (removedOf n) ≡ 1 → member n (moves rule rings board) ≡ true
   all-listed f t r =
       subst (λ (k : ℕ). member k (moves rule rings board) ≡ true) (sym number)

@@ -14,7 +14,7 @@ use Rattle.board.specs.declared.position.Position.{Position}
 use Rattle.board.specs.Board.{boardOf}
 use Rattle.board.proofs.Sides.{length-board}
 use Rattle.board.proofs.OneToOne.{mover-set, opponent-set, mover-at, vacant-at}
-use Rattle.plies.specs.Positions.{Placed, Slide}
+use Rattle.plies.specs.Inner.Positions.{Placed, Slide}
 use Rattle.rules.specs.Ply.{holds, inMill, slide, removable, removals}
 use Rattle.rules.proofs.OnSets.{unshieldedOf, removable-set, removals-open, removals-closed, removals-idle, removable-slide, in-mill-slide}
 

@@ -8,10 +8,11 @@ use Rattle.lists.proofs.Tests.{any-each, any-map}
 use Rattle.sets.specs.Sets.{elements, setFrom}
 use Rattle.board.specs.declared.position.Position.{Position}
 use Rattle.board.specs.Board.{boardOf}
-use Rattle.rules.specs.Ply.{targets, slide, removable, removals, slideMoves, listedFrom, listedMoves, afterPly, successors}
+use Rattle.rules.specs.Ply.{destinations, slide, removable, removals, slideMoves, listedMoves, afterPly, successors}
+use Rattle.plies.specs.Inner.Listing.{listedFrom}
 use Rattle.rules.proofs.Listed.{successors-are}
-use Rattle.plies.specs.Positions.{Placed}
-use Rattle.plies.proofs.Stones.{elements-removals, fromStone, moves-given, stone-given}
+use Rattle.plies.specs.Inner.Positions.{Placed}
+use Rattle.plies.proofs.StoneMoves.{elements-removals, fromStone, moves-given, stone-given}
 
 -- document 01's rule
 abbrev rule : ℕ → List ℕ → List ℕ
@@ -29,13 +30,14 @@ module _ (rings : ℕ) (position : Position) (placed : Placed rings position) (f
       ∙ sym (any-map f (λ r. 1024 * from + 32 * to + r) (removals rule rings (slide board from to) to))
 
   -- of the moves of a stone, by where they go
-  pub some-stone : (from tos : ℕ) → tos ≡ setFrom (targets rings board from)
-      → any (λ to. any f (slideMoves rule rings board from to)) (elements 32 tos) ≡ any f (listedFrom rings board from (targets rings board from))
+  pub some-stone : (from tos : ℕ) → tos ≡ setFrom (destinations rings board from)
+      → any (λ to. any f (slideMoves rule rings board from to)) (elements 32 tos) ≡ any f (listedFrom rings board from (destinations rings board from))
   some-stone from tos e =
       sym (any-each f (λ to. slideMoves rule rings board from to) (elements 32 tos)) ∙ ap (any f) (stone-given rings position placed from tos e)
 
   -- of all moves, by their stones
-  pub some-move : any (λ from. any f (listedFrom rings board from (targets rings board from))) (elements 32 (position .mover)) ≡ any f (listedMoves rings board)
+  pub some-move : any (λ from. any f (listedFrom rings board from (destinations rings board from))) (elements 32 (position .mover)) ≡ any f
+      (listedMoves rings board)
   some-move = sym (ap (any f) (moves-given rings position placed) ∙ any-each f (fromStone rings position placed) (elements 32 (position .mover)))
 
 -- some successor passes where some move leads to one

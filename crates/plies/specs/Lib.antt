@@ -1,3 +1,1 @@
-pub mod Masks
-pub mod Placing
-pub mod Positions
+pub mod Inner

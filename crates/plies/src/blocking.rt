@@ -4,7 +4,7 @@ ghost use Prim.Native.Nat.{_*_};
 ghost use Rattle.lists.specs.Lists.{isEmpty};
 ghost use Rattle.board.specs.Board.{boardOf};
 ghost use Rattle.rules.specs.Ply.{listedMoves};
-ghost use Rattle.plies.specs.Positions.{Playable};
+ghost use Rattle.plies.specs.Inner.Positions.{Playable};
 use super::choices;
 
 // Whether a position has no move: none of the mover's stones can go anywhere.
@@ -15,7 +15,7 @@ pub fn blocked(rings: usize, masks: &[u32; 72], position: board::Position) -> bo
     let mut left = position.mover;
     while left != 0 {
         let from = sets::take_lowest(left);
-        if choices::targets(rings, masks, position, from.lowest) != 0 {
+        if choices::destinations(rings, masks, position, from.lowest) != 0 {
             return false;
         }
         left = from.rest;

@@ -5,13 +5,13 @@ ghost use Prim.Native.Nat.{_*_, _^_, _<_};
 ghost use Rattle.lists.specs.Lists.{keep};
 ghost use Rattle.sets.specs.Sets.{has, with, elements, setFrom};
 ghost use Rattle.board.specs.Board.{boardOf};
-ghost use Rattle.rules.specs.Ply.{inMill, targets, slide, removable, removals};
-ghost use Rattle.plies.specs.Masks.{Masks};
-ghost use Rattle.plies.specs.Positions.{Playable, Slide};
+ghost use Rattle.rules.specs.Ply.{inMill, destinations, slide, removable, removals};
+ghost use Rattle.plies.specs.Inner.Masks.{Masks};
+ghost use Rattle.plies.specs.Inner.Positions.{Playable, Slide};
 use super::masks;
 
 // The set that stands for no removal: point 31.
-const NO_REMOVAL: u32 = 2147483648;
+pub const NO_REMOVAL: u32 = 2147483648;
 
 // Whether a point stands in a full mill of a set: a count of three decides.
 pub fn in_mill(rings: usize, masks: &[u32; 72], s: u32, p: usize) -> bool
@@ -88,10 +88,10 @@ pub fn removals(
 }
 
 // Where a stone may go: to a vacant neighbour; with exactly three stones, to any vacant point.
-pub fn targets(rings: usize, masks: &[u32; 72], position: board::Position, from: usize) -> u32
+pub fn destinations(rings: usize, masks: &[u32; 72], position: board::Position, from: usize) -> u32
     requires { ⌜ Playable rings (now masks) position ⌝ }
     requires { ⌜ from < 24 ⌝ }
-    ensures { λ r. ⌜ r ≡ setFrom (targets rings (boardOf (8 * rings) position) from) ⌝ }
+    ensures { λ r. ⌜ r ≡ setFrom (destinations rings (boardOf (8 * rings) position) from) ⌝ }
 {
     let vacant = board::vacant(8 * rings, position);
     if sets::count(position.mover) == 3 {

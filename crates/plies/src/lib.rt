@@ -6,9 +6,10 @@ mod making;
 mod masks;
 
 pub use blocking::blocked;
+pub use choices::NO_REMOVAL;
+pub use choices::destinations;
 pub use choices::in_mill;
 pub use choices::removals;
-pub use choices::targets;
 pub use listing::count_moves;
 pub use listing::list_moves;
 pub use making::after_ply;

@@ -6,8 +6,9 @@ ghost use lib.ListN.{length};
 ghost use lib.Seq.{sets};
 ghost use Rattle.sets.specs.Sets.{elements};
 ghost use Rattle.board.specs.Board.{boardOf};
-ghost use Rattle.rules.specs.Ply.{listedFrom, listedMoves};
-ghost use Rattle.plies.specs.Positions.{Playable, Vacant};
+ghost use Rattle.rules.specs.Ply.{listedMoves};
+ghost use Rattle.plies.specs.Inner.Listing.{listedFrom};
+ghost use Rattle.plies.specs.Inner.Positions.{Playable, Slides};
 use super::choices;
 use super::making::slide_number;
 
@@ -20,7 +21,7 @@ fn count_stone(
     tos: u32,
 ) -> usize
     requires { ⌜ Playable rings (now masks) position ⌝ }
-    requires { ⌜ Vacant rings position from tos ⌝ }
+    requires { ⌜ Slides rings position from tos ⌝ }
     ensures { λ r. ⌜ (r ≡ length (listedFrom rings (boardOf (8 * rings) position) from (elements 32 tos))) × (r ≤ 1024) ⌝ }
 {
     let mut n = 0;
@@ -42,7 +43,7 @@ pub fn count_moves(rings: usize, masks: &[u32; 72], position: board::Position) -
     let mut left = position.mover;
     while left != 0 {
         let from = sets::take_lowest(left);
-        let tos = choices::targets(rings, masks, position, from.lowest);
+        let tos = choices::destinations(rings, masks, position, from.lowest);
         n += count_stone(rings, masks, position, from.lowest, tos);
         left = from.rest;
     }
@@ -76,7 +77,7 @@ fn list_stone(
     at: usize,
 ) -> usize
     requires { ⌜ Playable rings (now masks) position ⌝ }
-    requires { ⌜ Vacant rings position from tos ⌝ }
+    requires { ⌜ Slides rings position from tos ⌝ }
     requires { ⌜ at + length (listedFrom rings (boardOf (8 * rings) position) from (elements 32 tos)) ≤ length (now list) ⌝ }
     ensures place { λ r. ⌜ r ≡ at + length (listedFrom rings (boardOf (8 * rings) position) from (elements 32 tos)) ⌝ }
     ensures list { λ _. ⌜ now (list .exit) ≡ sets (now (list .entry)) at (listedFrom rings (boardOf (8 * rings) position) from (elements 32 tos)) ⌝ }
@@ -102,7 +103,7 @@ pub fn list_moves(rings: usize, masks: &[u32; 72], position: board::Position, li
     let mut left = position.mover;
     while left != 0 {
         let from = sets::take_lowest(left);
-        let tos = choices::targets(rings, masks, position, from.lowest);
+        let tos = choices::destinations(rings, masks, position, from.lowest);
         k = list_stone(rings, masks, position, from.lowest, tos, list, k);
         left = from.rest;
     }

@@ -5,7 +5,7 @@ ghost use Prim.Native.Nat.{_+_, _*_, _<_};
 ghost use Rattle.lists.specs.Lists.{member};
 ghost use Rattle.board.specs.Board.{positionOf, boardOf};
 ghost use Rattle.rules.specs.Ply.{afterPly, listedMoves};
-ghost use Rattle.plies.specs.Positions.{Placed, Playable};
+ghost use Rattle.plies.specs.Inner.Positions.{Placed, Playable};
 use super::choices;
 
 // A move number is FROM × from + TO × to + removed, where to and removed are below TO.
@@ -21,7 +21,7 @@ pub fn slide_number(from: usize, to: usize) -> usize
     FROM * from + TO * to
 }
 
-// Whether a number is one of a position's moves: its stone, its target and its removal are each tested.
+// Whether a number is one of a position's moves: its stone, its destination and its removal are each tested.
 pub fn is_move(rings: usize, masks: &[u32; 72], position: board::Position, number: usize) -> bool
     requires { ⌜ Playable rings (now masks) position ⌝ }
     ensures { λ r. ⌜ r ≡ member number (listedMoves rings (boardOf (8 * rings) position)) ⌝ }
@@ -33,7 +33,7 @@ pub fn is_move(rings: usize, masks: &[u32; 72], position: board::Position, numbe
     }
     let mover = position.mover;
     if sets::has(mover, from) {
-        if sets::has(choices::targets(rings, masks, position, from), to) {
+        if sets::has(choices::destinations(rings, masks, position, from), to) {
             return sets::has(
                 choices::removals(rings, masks, position, from, to),
                 number % TO,

@@ -7,10 +7,10 @@ ghost use Prim.Native.Nat.{_+_, _≤_, _<_};
 ghost use lib.Dec.{ltb};
 ghost use lib.ListN.{length, getD, replicate};
 ghost use Rattle.sets.specs.Sets.{with, setFrom};
-ghost use Rattle.board.specs.Geometry.{neighbours, mills};
+ghost use Rattle.board.specs.Geometry.{neighbours, mills, millsThrough};
 ghost use Rattle.board.specs.Tables.{NeighbourTable, DegreeTable, MillTable};
-ghost use Rattle.plies.specs.Masks.{millsThrough, Masks};
-ghost use Rattle.plies.specs.Placing.{placed, millPlaced, millsPlaced};
+ghost use Rattle.plies.specs.Inner.Masks.{Masks};
+ghost use Rattle.plies.specs.Inner.Placing.{placed, millPlaced, millsPlaced};
 
 // The neighbours of a point.
 pub fn neighbours(masks: &[u32; 72], rings: usize, p: usize) -> u32

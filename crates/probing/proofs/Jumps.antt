@@ -1,4 +1,5 @@
--- The moves of a slide; a stone lifted to go to any of its targets: the position without it, the sides' names changed, and the board once it is put down. Assumes nothing.
+-- The moves of a slide; a stone lifted to go to any of its destinations: the position without it, the sides' names changed, and the board once it is
+-- put down. Assumes nothing.
 use mathlib.Core.Path.{_≡_, refl, sym, ap, ap₂, subst, _∙_}
 use mathlib.Core.Bool.{Bool, true, false}
 use mathlib.Core.List.{List, [], _∷_, List·Memᴰ·eq-of-singleton}
@@ -14,17 +15,17 @@ use Rattle.board.specs.declared.position.Position.{Position}
 use Rattle.board.specs.Board.{count, boardOf, OnBoard}
 use Rattle.board.proofs.Sides.{length-board}
 use Rattle.board.proofs.OneToOne.{vacant-at}
-use Rattle.ranking.specs.Inserting.{Inserting, Vacant}
+use Rattle.ranking.specs.Inner.Inserting.{Inserting, Vacant}
 use Rattle.ranking.proofs.Puts.{take-mover-on, put-stone-board}
-use Rattle.rules.specs.Ply.{noRemoval, removedOf, moveNumber, targets, slide, removable, removals, listedMoves, afterPly}
+use Rattle.rules.specs.Ply.{noRemoval, removedOf, moveNumber, destinations, slide, removable, removals, listedMoves, afterPly}
 use Rattle.rules.proofs.Leads.{MoverLeft, Parts, parts-of}
-use Rattle.plies.specs.Positions.{Placed, Slide}
+use Rattle.plies.specs.Inner.Positions.{Placed, Slide}
 use Rattle.plies.proofs.OnPositions.{opponent-small}
 use Rattle.plies.proofs.After.{after-leads, after-board}
 use Rattle.plies.proofs.Numbers.{number-listed, after-sets}
 use Rattle.probing.specs.declared.asking.Jump.{Jump}
-use Rattle.probing.specs.Questions.{Removing}
-use Rattle.probing.specs.Jumping.{Jumping}
+use Rattle.probing.specs.Inner.Questions.{Removing}
+use Rattle.probing.specs.Inner.Jumping.{Jumping}
 
 -- nothing but 31
 pub removes-none : (s : ℕ) → s ≡ 2 ^ 31 → elements 32 s ≡ 31 ∷ []
@@ -40,13 +41,13 @@ any-one f x = go (f x)
 
 -- the moves of a slide by their removals, where the slide has its number
 pub removing : (rings : ℕ) (position : Position) → Placed rings position → (from to : ℕ) → bit (position .mover) from ≡ 1
-    → bit (setFrom (targets rings (boardOf (8 * rings) position) from)) to ≡ 1 → (from < 24) × (to < 24)
+    → bit (setFrom (destinations rings (boardOf (8 * rings) position) from)) to ≡ 1 → (from < 24) × (to < 24)
     → (taken : ℕ) → taken ≡ setFrom (removals (λ n b. removable n b) rings (slide (boardOf (8 * rings) position) from to) to)
     → (n : ℕ) → n ≡ 1024 * from + 32 * to → Removing rings position n taken
-removing rings position placed from to own target low taken e n d = record {
+removing rings position placed from to own destination low taken e n d = record {
   small = omega (arith, low, d);
   listed = λ r b. ap (λ (k : ℕ). member (k + r) (listedMoves rings (boardOf (8 * rings) position))) d
-      ∙ number-listed rings position placed from to r own target (sym (ap (λ (x : ℕ). bit x r) e) ∙ b);
+      ∙ number-listed rings position placed from to r own destination (sym (ap (λ (x : ℕ). bit x r) e) ∙ b);
 }
 
 abbrev sides : ℕ → ℕ → Position

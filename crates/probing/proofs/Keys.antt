@@ -9,7 +9,7 @@ use Rattle.lists.proofs.Tests.{same-test, and-left, and-right, and-both}
 use Rattle.game.specs.Game.{voidEntry}
 use Rattle.game.specs.Judgement.{isLost, isWon}
 use Rattle.game.proofs.Entries.{lost-is, lost-of, won-test}
-use Rattle.probing.specs.Probes.{key, asked}
+use Rattle.probing.specs.Inner.Probes.{key, asked}
 
 -- a won entry comes by its depth, any other after all of these
 pub key-won : (e : ℕ) → (eqb (e % 2) 1 && ltb e voidEntry) ≡ true → key e ≡ e

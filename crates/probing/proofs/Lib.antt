@@ -1,4 +1,4 @@
-pub mod Answers
+pub mod Asked
 pub mod Keys
 pub mod Reading
 pub mod Jumps

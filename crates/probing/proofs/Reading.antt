@@ -15,8 +15,8 @@ use Rattle.sizes.specs.Size.{size}
 use Rattle.ranking.specs.Rank.{rank}
 use Rattle.ranking.proofs.Inverse.{rank-low}
 use Rattle.rules.proofs.Leads.{MoverLeft, Leads}
-use Rattle.plies.specs.Positions.{Placed}
-use Rattle.probing.specs.Probes.{probe, Left, Reads}
+use Rattle.plies.specs.Inner.Positions.{Placed}
+use Rattle.probing.specs.Inner.Probes.{probe, StonesLeft, Reads}
 
 module _ (tablebase : List ℕ) (same fewer o : ℕ) (b : List ℕ) where
   -- no stone was removed
@@ -49,7 +49,7 @@ module _ {room points m o same fewer : ℕ} (reads : Reads room points m o same 
   pub same-within : (n : ℕ) → n ≡ o → same + size points n m ≤ room
   same-within n e = subst (λ (x : ℕ). same + size points x m ≤ room) (sym e) (reads .same-room)
 
-  pub fewer-within : (n : ℕ) → Left o n → (n ≡ o → ⊥) → 3 ≤ n → fewer + size points n m ≤ room
+  pub fewer-within : (n : ℕ) → StonesLeft o n → (n ≡ o → ⊥) → 3 ≤ n → fewer + size points n m ≤ room
   fewer-within n (inl e) other h = absurd (other e)
   fewer-within n (inr e) other h =
       let d : o - 1 ≡ n = omega (arith, e) in
@@ -67,9 +67,9 @@ place-low rings position placed start room h =
     omega (arith, h, l)
 
 -- a ply leaves a side its stones, or all but one
-pub left-of : {b c : List ℕ} {removed : ℕ} → Leads b c removed → Left (count 2 b) (count 1 c)
+pub left-of : {b c : List ℕ} {removed : ℕ} → Leads b c removed → StonesLeft (count 2 b) (count 1 c)
 left-of {b} {c} {removed} l = go (l .mover)
   where
-    go : MoverLeft b c removed → Left (count 2 b) (count 1 c)
+    go : MoverLeft b c removed → StonesLeft (count 2 b) (count 1 c)
     go (inl q) = inl (q .1)
     go (inr q) = inr (q .1)

@@ -1,3 +1,1 @@
-pub mod Probes
-pub mod Questions
-pub mod Jumping
+pub mod Inner

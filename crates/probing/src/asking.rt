@@ -6,16 +6,14 @@ ghost use lib.ListN.{length};
 ghost use Rattle.lists.specs.Lists.{any, member};
 ghost use Rattle.sets.specs.Sets.{elements};
 ghost use Rattle.board.specs.Board.{boardOf};
-ghost use Rattle.rules.specs.Ply.{targets, afterPly, removable, listedFrom, listedMoves, successors};
-ghost use Rattle.plies.specs.Masks.{Masks};
-ghost use Rattle.probing.specs.Probes.{key, asked};
-ghost use Rattle.probing.specs.Questions.{Probing, Movable, Removing, answers};
-ghost use Rattle.probing.specs.Jumping.{Jumping};
+ghost use Rattle.rules.specs.Ply.{destinations, afterPly, removable, listedMoves, successors};
+ghost use Rattle.plies.specs.Inner.Listing.{listedFrom};
+ghost use Rattle.plies.specs.Inner.Masks.{Masks};
+ghost use Rattle.probing.specs.Inner.Probes.{key, asked};
+ghost use Rattle.probing.specs.Inner.Questions.{Probing, Movable, Removing, entryAsked};
+ghost use Rattle.probing.specs.Inner.Jumping.{Jumping};
 use super::entries;
 use super::entries::Starts;
-
-// Entries below are depths; this one is void, the next draw.
-pub const VOID: u32 = parts::VOID as u32;
 
 // The keys of the entries that are not won start here: the lost ones by depth, then void and draw.
 pub const NOT_WON: u32 = 65536;
@@ -33,7 +31,7 @@ pub struct Stone {
     pub tos: u32,
 }
 
-// A slide by its number, the position after its stone is lifted, and a walk that has reached its target.
+// A slide by its number, the position after its stone is lifted, and a walk that has reached its destination.
 pub struct Jump {
     pub slide: usize,
     pub lifted: board::Position,
@@ -45,7 +43,7 @@ fn key(entry: u16) -> u32
     ensures { λ r. ⌜ r ≡ key entry ⌝ }
 {
     let e = entry as u32;
-    if (e % 2 == 1) & (e < VOID) {
+    if (e % 2 == 1) & (e < parts::VOID_WIDE) {
         return e;
     }
     NOT_WON + e
@@ -70,7 +68,7 @@ fn leads(
 ) -> bool
     requires { ⌜ Probing (now binomials) (length (now tablebase)) rings (question .starts) position ⌝ }
     requires { ⌜ member number (listedMoves rings (boardOf (8 * rings) position)) ≡ true ⌝ }
-    ensures { λ r. ⌜ r ≡ answers (now (tablebase .entry)) question (boardOf (8 * rings) position) (afterPly (boardOf (8 * rings) position) number) ⌝ }
+    ensures { λ r. ⌜ r ≡ entryAsked (now (tablebase .entry)) question (boardOf (8 * rings) position) (afterPly (boardOf (8 * rings) position) number) ⌝ }
 {
     let entry = entries::entry_after_move(
         tablebase,
@@ -95,7 +93,7 @@ fn some_removal(
 ) -> bool
     requires { ⌜ Probing (now binomials) (length (now tablebase)) rings (question .starts) position ⌝ }
     requires { ⌜ Removing rings position slide removals ⌝ }
-    ensures { λ r. ⌜ r ≡ any (λ p. answers (now (tablebase .entry)) question (boardOf (8 * rings) position)
+    ensures { λ r. ⌜ r ≡ any (λ p. entryAsked (now (tablebase .entry)) question (boardOf (8 * rings) position)
         (afterPly (boardOf (8 * rings) position) (slide + p))) (elements 32 removals) ⌝ }
 {
     let mut left = removals;
@@ -116,7 +114,7 @@ fn some_removal(
     false
 }
 
-// Whether some move of one stone, to the set of its targets, leads to such a position: one move after the other.
+// Whether some move of one stone, to the set of its destinations, leads to such a position: one move after the other.
 fn some_slide(
     tablebase: &[u16],
     binomials: &[u32; 625],
@@ -128,9 +126,9 @@ fn some_slide(
 ) -> bool
     requires { ⌜ Probing (now binomials) (length (now tablebase)) rings (question .starts) position ⌝ }
     requires { ⌜ Movable rings (now masks) position stone ⌝ }
-    ensures { λ r. ⌜ r ≡ any (λ m. answers (now (tablebase .entry)) question (boardOf (8 * rings) position)
+    ensures { λ r. ⌜ r ≡ any (λ m. entryAsked (now (tablebase .entry)) question (boardOf (8 * rings) position)
         (afterPly (boardOf (8 * rings) position) m))
-        (listedFrom rings (boardOf (8 * rings) position) (stone .from) (targets rings (boardOf (8 * rings) position) (stone .from))) ⌝ }
+        (listedFrom rings (boardOf (8 * rings) position) (stone .from) (destinations rings (boardOf (8 * rings) position) (stone .from))) ⌝ }
 {
     let mut left = stone.tos;
     while left != 0 {
@@ -152,10 +150,7 @@ fn some_slide(
     false
 }
 
-// The set of 31 alone: nothing is removed.
-const NO_REMOVAL: u32 = 2147483648;
-
-// Whether one of the moves of a slide leads to such a position, where a walk has reached its target: without a removal the rank is the walk's.
+// Whether one of the moves of a slide leads to such a position, where a walk has reached its destination: without a removal the rank is the walk's.
 fn some_at(
     tablebase: &[u16],
     binomials: &[u32; 625],
@@ -167,10 +162,10 @@ fn some_at(
 ) -> bool
     requires { ⌜ Probing (now binomials) (length (now tablebase)) rings (question .starts) position ⌝ }
     requires { ⌜ Removing rings position (jump .slide) removals × Jumping rings position jump ⌝ }
-    ensures { λ r. ⌜ r ≡ any (λ p. answers (now (tablebase .entry)) question (boardOf (8 * rings) position)
+    ensures { λ r. ⌜ r ≡ any (λ p. entryAsked (now (tablebase .entry)) question (boardOf (8 * rings) position)
         (afterPly (boardOf (8 * rings) position) (jump .slide + p))) (elements 32 removals) ⌝ }
 {
-    if removals == NO_REMOVAL {
+    if removals == plies::NO_REMOVAL {
         let r = ranking::rank_at(binomials, 8 * rings, jump.lifted, true, jump.walk);
         let starts = question.starts;
         return asked(question, tablebase[starts.same + r]);
@@ -186,7 +181,7 @@ fn some_at(
     )
 }
 
-// Whether some move of one stone, to the set of its targets, leads to such a position: in one walk up the targets.
+// Whether some move of one stone, to the set of its destinations, leads to such a position: in one walk up the destinations.
 fn some_jump(
     tablebase: &[u16],
     binomials: &[u32; 625],
@@ -198,9 +193,9 @@ fn some_jump(
 ) -> bool
     requires { ⌜ Probing (now binomials) (length (now tablebase)) rings (question .starts) position ⌝ }
     requires { ⌜ Movable rings (now masks) position stone × (stone .tos ≡ 0 → ⊥) ⌝ }
-    ensures { λ r. ⌜ r ≡ any (λ m. answers (now (tablebase .entry)) question (boardOf (8 * rings) position)
+    ensures { λ r. ⌜ r ≡ any (λ m. entryAsked (now (tablebase .entry)) question (boardOf (8 * rings) position)
         (afterPly (boardOf (8 * rings) position) m))
-        (listedFrom rings (boardOf (8 * rings) position) (stone .from) (targets rings (boardOf (8 * rings) position) (stone .from))) ⌝ }
+        (listedFrom rings (boardOf (8 * rings) position) (stone .from) (destinations rings (boardOf (8 * rings) position) (stone .from))) ⌝ }
 {
     let lifted = board::Position {
         mover: position.opponent,
@@ -232,11 +227,8 @@ fn some_jump(
     false
 }
 
-// For so few targets the walk costs more than it saves.
-const FEW: u32 = 4;
-
-// Whether some move of one stone, to the set of its targets, leads to such a position.
-fn some_target(
+// Whether some move of one stone, to the set of its destinations, leads to such a position.
+fn some_destination(
     tablebase: &[u16],
     binomials: &[u32; 625],
     masks: &[u32; 72],
@@ -247,11 +239,11 @@ fn some_target(
 ) -> bool
     requires { ⌜ Probing (now binomials) (length (now tablebase)) rings (question .starts) position ⌝ }
     requires { ⌜ Movable rings (now masks) position stone ⌝ }
-    ensures { λ r. ⌜ r ≡ any (λ m. answers (now (tablebase .entry)) question (boardOf (8 * rings) position)
+    ensures { λ r. ⌜ r ≡ any (λ m. entryAsked (now (tablebase .entry)) question (boardOf (8 * rings) position)
         (afterPly (boardOf (8 * rings) position) m))
-        (listedFrom rings (boardOf (8 * rings) position) (stone .from) (targets rings (boardOf (8 * rings) position) (stone .from))) ⌝ }
+        (listedFrom rings (boardOf (8 * rings) position) (stone .from) (destinations rings (boardOf (8 * rings) position) (stone .from))) ⌝ }
 {
-    if sets::count(stone.tos) <= FEW {
+    if sets::count(stone.tos) <= ranking::WALK_PAYS_ABOVE {
         return some_slide(
             tablebase,
             binomials,
@@ -284,14 +276,14 @@ pub fn some_successor(
 ) -> bool
     requires { ⌜ Probing (now binomials) (length (now tablebase)) rings (question .starts) position ⌝ }
     requires { ⌜ Masks rings (now masks) ⌝ }
-    ensures { λ r. ⌜ r ≡ any (λ c. answers (now (tablebase .entry)) question (boardOf (8 * rings) position) c)
+    ensures { λ r. ⌜ r ≡ any (λ c. entryAsked (now (tablebase .entry)) question (boardOf (8 * rings) position) c)
         (successors (λ n c. removable n c) rings (boardOf (8 * rings) position)) ⌝ }
 {
     let mut left = position.mover;
     while left != 0 {
         let from = sets::take_lowest(left);
-        let tos = plies::targets(rings, masks, position, from.lowest);
-        if some_target(
+        let tos = plies::destinations(rings, masks, position, from.lowest);
+        if some_destination(
             tablebase,
             binomials,
             masks,

@@ -6,12 +6,12 @@ ghost use lib.ListN.{length, getD};
 ghost use Rattle.lists.specs.Lists.{member};
 ghost use Rattle.board.specs.Board.{count, boardOf};
 ghost use Rattle.sizes.specs.Size.{size};
-ghost use Rattle.sizes.specs.Binomial.{BinomialTable};
+ghost use Rattle.sizes.specs.Inner.Binomial.{BinomialTable};
 ghost use Rattle.ranking.specs.Rank.{rank};
 ghost use Rattle.rules.specs.Ply.{afterPly, listedMoves};
-ghost use Rattle.plies.specs.Positions.{Placed};
-ghost use Rattle.probing.specs.Probes.{probe};
-ghost use Rattle.probing.specs.Questions.{Probing, AfterPly};
+ghost use Rattle.plies.specs.Inner.Positions.{Placed};
+ghost use Rattle.probing.specs.Inner.Probes.{probe};
+ghost use Rattle.probing.specs.Inner.Questions.{Probing, AfterPly};
 
 // Where the tables of a position's successors start: of those without a removal, and of those with one.
 pub struct Starts {

@@ -8,17 +8,16 @@ ghost use Rattle.board.specs.Board.{count, boardOf};
 ghost use Rattle.rules.specs.Ply.{removable, successors};
 ghost use Rattle.game.specs.Game.{voidEntry};
 ghost use Rattle.game.specs.Judgement.{hit, decided};
-ghost use Rattle.plies.specs.Masks.{Masks};
-ghost use Rattle.probing.specs.Probes.{probe};
-ghost use Rattle.probing.specs.Questions.{Probing};
+ghost use Rattle.plies.specs.Inner.Masks.{Masks};
+ghost use Rattle.probing.specs.Inner.Probes.{probe};
+ghost use Rattle.probing.specs.Inner.Questions.{Probing};
 use super::asking::NOT_WON;
 use super::asking::Question;
-use super::asking::VOID;
 use super::asking::some_successor;
 use super::entries::Starts;
 
 // The key of void, and of a draw.
-const VOID_KEY: u32 = NOT_WON + VOID;
+const VOID_KEY: u32 = NOT_WON + parts::VOID_WIDE;
 
 const DRAW_KEY: u32 = VOID_KEY + 1;
 
@@ -83,7 +82,7 @@ pub fn decided(
     }
     let other = Question {
         starts: starts,
-        low: VOID,
+        low: parts::VOID_WIDE,
         high: END,
     };
     !some_successor(tablebase, binomials, masks, rings, other, position)

@@ -4,7 +4,6 @@ mod entries;
 mod judging;
 
 pub use asking::Question;
-pub use asking::VOID;
 pub use asking::some_successor;
 pub use entries::Starts;
 pub use entries::entry_after;

@@ -20,7 +20,7 @@ use Rattle.board.specs.Board.{count, digit, valueAt, boardOf, OnBoard}
 use Rattle.board.proofs.Sides.{length-board, board-at, board-values, value-le}
 use Rattle.sizes.specs.Size.{size}
 use Rattle.ranking.specs.Rank.{rank}
-use Rattle.ranking.specs.Ends.{Ends}
+use Rattle.ranking.specs.Inner.Ends.{Ends}
 use Rattle.sets.proofs.Least.{below-lowest}
 use Rattle.ranking.proofs.Digits.{bit-or, stones}
 use Rattle.ranking.proofs.Extremes.{Rises, rises-top, taken-more}

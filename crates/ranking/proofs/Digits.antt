@@ -10,7 +10,7 @@ use lib.ListN.{getD}
 use borrow.Author.Tests.{eqb-true, eqb-false}
 use Rattle.sets.specs.Sets.{bit, has}
 use Rattle.sets.proofs.Laws.{bit-zero, bit-suc, bit-lt, bit-cases}
-use Rattle.ranking.specs.Ends.{Ends}
+use Rattle.ranking.specs.Inner.Ends.{Ends}
 use Rattle.board.specs.declared.position.Position.{Position}
 use Rattle.board.specs.Board.{digit, valueAt, boardOf, OnBoard}
 use Rattle.board.proofs.Sides.{board-at}

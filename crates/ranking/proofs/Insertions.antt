@@ -17,7 +17,7 @@ use Rattle.sizes.specs.Size.{size}
 use Rattle.ranking.specs.declared.inserting.Insertion.{Insertion}
 use Rattle.ranking.specs.Rank.{rank}
 use Rattle.ranking.specs.Unrank.{below}
-use Rattle.ranking.specs.Inserting.{added, Inserting, Vacant}
+use Rattle.ranking.specs.Inner.Inserting.{added, Inserting, Vacant}
 use Rattle.ranking.proofs.Inverse.{rank-low}
 use Rattle.ranking.proofs.Following.{values-drop}
 use Rattle.ranking.proofs.Steps.{below-small, rank-more, Ranking, ranking-more, ranking-small}

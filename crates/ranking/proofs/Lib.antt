@@ -2,11 +2,11 @@ pub mod Reading
 pub mod Inverse
 pub mod Steps
 pub mod Digits
-pub mod Stones
+pub mod StoneRanks
 pub mod OnSets
 pub mod Extremes
 pub mod Following
-pub mod Parts
+pub mod BoardSets
 pub mod Descents
 pub mod NextPosition
 pub mod Runs

@@ -15,7 +15,7 @@ use Rattle.ranking.specs.Rank.{rank}
 use Rattle.ranking.specs.Unrank.{unrank}
 use Rattle.ranking.proofs.Inverse.{rank-unrank, unrank-one}
 use Rattle.ranking.proofs.Following.{Raised, raise, nextBoard, next-few, next-board}
-use Rattle.ranking.proofs.Parts.{mover-low, opponent-low, next-set, count-members}
+use Rattle.ranking.proofs.BoardSets.{mover-low, opponent-low, next-set, count-members}
 use Rattle.ranking.proofs.Descents.{Descent}
 
 -- a side whose points up to p change, as `side` has it

@@ -10,7 +10,7 @@ use lib.ListN.{length, getD}
 use lib.Pow.{pow-mono}
 use Rattle.lists.specs.Lists.{range, keep}
 use Rattle.sets.specs.Sets.{has, elements}
-use Rattle.sets.specs.Taken.{Taken}
+use Rattle.sets.specs.Inner.Taken.{Taken}
 use Rattle.sets.proofs.Elements.{elements-are, elements-more, elements-none}
 use Rattle.board.specs.declared.position.Position.{Position}
 use Rattle.board.specs.Board.{Values, digit, boardOf, OnBoard}
@@ -19,13 +19,13 @@ use Rattle.ranking.specs.Rank.{rank}
 use Rattle.ranking.specs.Unrank.{below}
 use Rattle.ranking.proofs.Digits.{stones, vacant-value, stone-value}
 use Rattle.ranking.proofs.Steps.{ranking-small}
-use Rattle.ranking.proofs.Stones.{from, Passed, passed-none, Next, passed-coming, passed-more, ranking-few}
+use Rattle.ranking.proofs.StoneRanks.{from, RankedBelow, passed-none, Next, passed-coming, passed-more, ranking-few}
 
 -- s stones are passed, o of them the opponent's, and those in `left` are to come
 pub record Passing (points : ℕ) (position : Position) (s o r left : ℕ) : Type 0 where
   pub within : left < 2 ^ 32
   pub some : o ≤ s
-  pub passed : Passed (boardOf points position) (λ q. has (stones position) q) (elements 32 left) (s - o) o r
+  pub passed : RankedBelow (boardOf points position) (λ q. has (stones position) q) (elements 32 left) (s - o) o r
 
 -- the numbers where the next stone is found
 pub record Here (points p s o r : ℕ) : Type 0 where
@@ -56,12 +56,13 @@ module _ (points : ℕ) (position : Position) (small : points ≤ 24) (w : OnBoa
       record {
         within = lt-of-lt-of-le l (pow-mono {i = points} {j = 32} n);
         some = omega arith;
-        passed = subst (λ (k : List ℕ). Passed board stone k 0 0 0) (sym e) (passed-none board stone);
+        passed = subst (λ (k : List ℕ). RankedBelow board stone k 0 0 0) (sym e) (passed-none board stone);
       }
 
   module _ (s o r left p rest : ℕ) (state : Passing points position s o r left) (t : Taken left p rest) where
     next : Next board stone p (elements 32 rest) (s - o) o r
-    next = passed-coming board stone values vacant (p ∷ elements 32 rest) (subst (λ (l : List ℕ). Passed board stone l (s - o) o r) (t .apart) (state .passed))
+    next = passed-coming board stone values vacant (p ∷ elements 32 rest)
+        (subst (λ (l : List ℕ). RankedBelow board stone l (s - o) o r) (t .apart) (state .passed))
 
     pub passing-here : Here points p s o r
     passing-here =
@@ -87,4 +88,4 @@ module _ (points : ℕ) (position : Position) (small : points ≤ 24) (w : OnBoa
   pub passing-all : (s o r left : ℕ) → Passing points position s o r left → left ≡ 0 → r ≡ rank board
   passing-all s o r left state z =
       passed-coming board stone values vacant []
-      (subst (λ (l : List ℕ). Passed board stone l (s - o) o r) (ap (elements 32) z ∙ elements-none 32) (state .passed))
+      (subst (λ (l : List ℕ). RankedBelow board stone l (s - o) o r) (ap (elements 32) z ∙ elements-none 32) (state .passed))

@@ -17,7 +17,7 @@ use Rattle.board.specs.declared.position.Position.{Position}
 use Rattle.board.specs.Board.{count, digit, valueAt, boardOf, OnBoard}
 use Rattle.board.proofs.Sides.{length-board, board-at}
 use Rattle.board.proofs.OneToOne.{mover-count, opponent-count, vacant-bits}
-use Rattle.ranking.specs.Inserting.{Vacant, putStone}
+use Rattle.ranking.specs.Inner.Inserting.{Vacant, putStone}
 
 -- what a position has at a point, by its digits
 value-is : (p : Position) (q x y : ℕ) → bit (p .mover) q ≡ x → bit (p .opponent) q ≡ y → valueAt p q ≡ digit (eqb x 1) + 2 * digit (eqb y 1)

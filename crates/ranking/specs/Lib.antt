@@ -1,4 +1,3 @@
 pub mod Rank
 pub mod Unrank
-pub mod Ends
-pub mod Inserting
+pub mod Inner

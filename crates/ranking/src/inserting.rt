@@ -5,13 +5,16 @@ ghost use Prim.Native.Nat.{suc, _+_, _≤_, _<_};
 ghost use lib.ListN.{set};
 ghost use Rattle.sets.specs.Sets.{members};
 ghost use Rattle.board.specs.Board.{digit, boardOf, OnBoard};
-ghost use Rattle.sizes.specs.Binomial.{BinomialTable};
+ghost use Rattle.sizes.specs.Inner.Binomial.{BinomialTable};
 ghost use Rattle.ranking.specs.Rank.{rank};
-ghost use Rattle.ranking.specs.Inserting.{Inserting, Vacant, putStone};
+ghost use Rattle.ranking.specs.Inner.Inserting.{Inserting, Vacant, putStone};
 use board::Position;
 
 // The point reached; the stones below it, and the opponent's among them; and what the position's stones add to the rank where the new stone is counted
 // below those from here on.
+// For so few points a walk costs more than it saves.
+pub const WALK_PAYS_ABOVE: u32 = 4;
+
 pub struct Insertion {
     pub at: usize,
     pub stones: usize,

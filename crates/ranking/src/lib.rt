@@ -4,7 +4,7 @@ ghost use mathlib.Core.Bool.{cond};
 ghost use Prim.Native.Nat.{suc, _+_, _-_, _≤_, _<_};
 ghost use Rattle.board.specs.Board.{digit, boardOf, positionOf, OnBoard};
 ghost use Rattle.sizes.specs.Size.{size};
-ghost use Rattle.sizes.specs.Binomial.{BinomialTable};
+ghost use Rattle.sizes.specs.Inner.Binomial.{BinomialTable};
 ghost use Rattle.ranking.specs.Rank.{rank};
 ghost use Rattle.ranking.specs.Unrank.{below, topValue, unrank};
 
@@ -13,6 +13,7 @@ mod stepping;
 
 use board::Position;
 pub use inserting::Insertion;
+pub use inserting::WALK_PAYS_ABOVE;
 pub use inserting::begin;
 pub use inserting::go_to;
 pub use inserting::rank_at;

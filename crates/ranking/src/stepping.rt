@@ -3,10 +3,10 @@ ghost use mathlib.Core.Path.{_≡_};
 ghost use Prim.Native.Nat.{suc, _+_, _-_, _*_, _/_, _^_, _≤_, _<_};
 ghost use Rattle.board.specs.Board.{count, boardOf, positionOf, OnBoard};
 ghost use Rattle.sizes.specs.Size.{size};
-ghost use Rattle.sizes.specs.Binomial.{BinomialTable};
+ghost use Rattle.sizes.specs.Inner.Binomial.{BinomialTable};
 ghost use Rattle.ranking.specs.Rank.{rank};
 ghost use Rattle.ranking.specs.Unrank.{unrank};
-ghost use Rattle.ranking.specs.Ends.{Ends};
+ghost use Rattle.ranking.specs.Inner.Ends.{Ends};
 use board::Position;
 
 // The points outside a set that follow a member of it.

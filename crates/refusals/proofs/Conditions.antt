@@ -11,7 +11,7 @@ use borrow.Author.Tests.{ltb-false, le-ltb, leb-false, le-leb, lt-leb, eqb-true,
 use Rattle.lists.proofs.Tests.{or-left, or-right}
 use Rattle.board.specs.Board.{Values, count}
 use Rattle.sizes.specs.Size.{size}
-use Rattle.refusals.specs.Refusals.{table, pickedRows, refusal}
+use Rattle.refusals.specs.Refusals.{refusalTable, pickedRows, refusal}
 use Rattle.refusals.specs.Conditions.{boardPicks, stonesPicks, countsPicks, rankPicks, shortPicks, targetPicks, movePicks, ringsWrong, lengthWrong, valueWrong, countsWrong, rankWrong, targetShort, moveWrong}
 use Rattle.refusals.proofs.FirstRefusal.{meets, passes, passed, first-kept, one-more}
 
@@ -37,14 +37,14 @@ value-step i b p h =
     ap valueWrong (drop-cons b (i - 1) 0 (omega arith)) ∙ ap (λ (k : ℕ). ltb 2 (getD b (i - 1) 0) || valueWrong (drop k b)) e
 
 -- what right counts are
-pub record Counted (points m o : ℕ) : Type 0 where
+pub record RightCounts (points m o : ℕ) : Type 0 where
   pub mover-low : 3 ≤ m
   pub mover-high : m ≤ 9
   pub opponent-low : 3 ≤ o
   pub opponent-high : o ≤ 9
   pub stones-fit : m + o ≤ points
 
-pub counts-right : (points m o : ℕ) → countsWrong points m o ≡ false → Counted points m o
+pub counts-right : (points m o : ℕ) → countsWrong points m o ≡ false → RightCounts points m o
 counts-right points m o e =
     let a = ltb m 3 in
     let b = ltb 9 m in
@@ -74,7 +74,7 @@ unfolding valueWrong
 values-fine [] v = refl
 values-fine (x ∷ b) v = rw (le-ltb 2 x (v .0)) (values-fine b (v .1))
 
-pub counts-fine : (points m o : ℕ) → Counted points m o → countsWrong points m o ≡ false
+pub counts-fine : (points m o : ℕ) → RightCounts points m o → countsWrong points m o ≡ false
 counts-fine points m o w =
     rw (
       le-ltb m 3 (w .mover-low),
@@ -90,11 +90,11 @@ pub record Accepted (rings : ℕ) (b : List ℕ) : Type 0 where
   pub rings-high : rings ≤ 3
   pub points : length b ≡ 8 * rings
   pub values : Values b
-  pub counted : Counted (8 * rings) (count 1 b) (count 2 b)
+  pub counted : RightCounts (8 * rings) (count 1 b) (count 2 b)
 
 pub accepted-board : (rings : ℕ) (b : List ℕ) → refusal (boardPicks rings b) ≡ 0 → Accepted rings b
 accepted-board rings b e =
-    let p = passed (pickedRows table (boardPicks rings b)) refl e in
+    let p = passed (pickedRows refusalTable (boardPicks rings b)) refl e in
     let r = rings-right rings (p .0) in
     record {
       rings-low = r .0;
@@ -106,25 +106,25 @@ accepted-board rings b e =
 
 -- counts come after rings, and a target after the counts
 pub stones-rings : (rings m o : ℕ) → 0 ≡ refusal (stonesPicks rings m o) → rings ≤ 3
-stones-rings rings m o e = rings-right rings (passed (pickedRows table (stonesPicks rings m o)) refl (sym e) .0) .1
+stones-rings rings m o e = rings-right rings (passed (pickedRows refusalTable (stonesPicks rings m o)) refl (sym e) .0) .1
 
 module _ (rings m o room : ℕ) where
   pub stones-refused : (n : ℕ) → (n ≡ 0 → ⊥) → n ≡ refusal (stonesPicks rings m o) → n ≡ refusal (countsPicks rings m o room)
-  stones-refused n z e = first-kept (pickedRows table (stonesPicks rings m o)) (record { holds = lengthWrong rings room; number = 6 } ∷ []) n z e
+  stones-refused n z e = first-kept (pickedRows refusalTable (stonesPicks rings m o)) (record { holds = lengthWrong rings room; number = 6 } ∷ []) n z e
 
   pub room-decides : 0 ≡ refusal (stonesPicks rings m o) → refusal (countsPicks rings m o room) ≡ cond (lengthWrong rings room) 6 0
-  room-decides e = one-more (pickedRows table (stonesPicks rings m o)) (lengthWrong rings room) 6 refl e
+  room-decides e = one-more (pickedRows refusalTable (stonesPicks rings m o)) (lengthWrong rings room) 6 refl e
 
 -- accepted counts and target
 pub record AcceptedCounts (rings m o room : ℕ) : Type 0 where
   pub rings-low : 1 ≤ rings
   pub rings-high : rings ≤ 3
   pub points : room ≡ 8 * rings
-  pub counted : Counted (8 * rings) m o
+  pub counted : RightCounts (8 * rings) m o
 
 pub accepted-counts : (rings m o room : ℕ) → refusal (countsPicks rings m o room) ≡ 0 → AcceptedCounts rings m o room
 accepted-counts rings m o room e =
-    let p = passed (pickedRows table (countsPicks rings m o room)) refl e in
+    let p = passed (pickedRows refusalTable (countsPicks rings m o room)) refl e in
     let q = rings-right rings (p .0) in
     record {
       rings-low = q .0;
@@ -140,56 +140,56 @@ pub record AcceptedRank (rings m o r room : ℕ) : Type 0 where
 
 pub accepted-rank : (rings m o r room : ℕ) → refusal (rankPicks rings m o r room) ≡ 0 → AcceptedRank rings m o r room
 accepted-rank rings m o r room e =
-    let p = passed (pickedRows table (rankPicks rings m o r room)) refl e in
+    let p = passed (pickedRows refusalTable (rankPicks rings m o r room)) refl e in
     record {
-      counts = accepted-counts rings m o room (sym (passes (pickedRows table (countsPicks rings m o room)) (p .0, (p .1 .0, (p .1 .1 .0, tt)))));
+      counts = accepted-counts rings m o room (sym (passes (pickedRows refusalTable (countsPicks rings m o room)) (p .0, (p .1 .0, (p .1 .1 .0, tt)))));
       rank-low = leb-false (size (8 * rings) m o) r (p .1 .1 .1 .0);
     }
 
 -- refused counts or target are refused whatever the rank
 pub counts-refused : (rings m o r room n : ℕ) → (n ≡ 0 → ⊥) → n ≡ refusal (countsPicks rings m o room) → n ≡ refusal (rankPicks rings m o r room)
 counts-refused rings m o r room n z e =
-    first-kept (pickedRows table (countsPicks rings m o room)) (record { holds = rankWrong (8 * rings) m o r; number = 5 } ∷ []) n z e
+    first-kept (pickedRows refusalTable (countsPicks rings m o room)) (record { holds = rankWrong (8 * rings) m o r; number = 5 } ∷ []) n z e
 
 -- where counts and target are accepted, the rank alone decides
 module _ (rings m o r room : ℕ) (e : 0 ≡ refusal (countsPicks rings m o room)) where
   pub rank-refused : size (8 * rings) m o ≤ r → 5 ≡ refusal (rankPicks rings m o r room)
   rank-refused h =
-      let p = passed (pickedRows table (countsPicks rings m o room)) refl (sym e) in
-      meets (pickedRows table (rankPicks rings m o r room)) 3 (p .0, (p .1 .0, (p .1 .1 .0, tt))) (le-leb (size (8 * rings) m o) r h)
+      let p = passed (pickedRows refusalTable (countsPicks rings m o room)) refl (sym e) in
+      meets (pickedRows refusalTable (rankPicks rings m o r room)) 3 (p .0, (p .1 .0, (p .1 .1 .0, tt))) (le-leb (size (8 * rings) m o) r h)
 
   pub rank-passed : r < size (8 * rings) m o → 0 ≡ refusal (rankPicks rings m o r room)
   rank-passed h =
-      let p = passed (pickedRows table (countsPicks rings m o room)) refl (sym e) in
-      passes (pickedRows table (rankPicks rings m o r room)) (p .0, (p .1 .0, (p .1 .1 .0, (lt-leb (size (8 * rings) m o) r h, tt))))
+      let p = passed (pickedRows refusalTable (countsPicks rings m o room)) refl (sym e) in
+      passes (pickedRows refusalTable (rankPicks rings m o r room)) (p .0, (p .1 .0, (p .1 .1 .0, (lt-leb (size (8 * rings) m o) r h, tt))))
 
 -- a target that is to hold so many places comes after the board
 module _ (rings : ℕ) (b : List ℕ) (room needed : ℕ) where
   pub short-refused : (n : ℕ) → (n ≡ 0 → ⊥) → n ≡ refusal (boardPicks rings b) → n ≡ refusal (shortPicks rings b room needed)
-  short-refused n z e = first-kept (pickedRows table (boardPicks rings b)) (record { holds = targetShort room needed; number = 7 } ∷ []) n z e
+  short-refused n z e = first-kept (pickedRows refusalTable (boardPicks rings b)) (record { holds = targetShort room needed; number = 7 } ∷ []) n z e
 
   pub short-decides : 0 ≡ refusal (boardPicks rings b) → refusal (shortPicks rings b room needed) ≡ cond (targetShort room needed) 7 0
-  short-decides e = one-more (pickedRows table (boardPicks rings b)) (targetShort room needed) 7 refl e
+  short-decides e = one-more (pickedRows refusalTable (boardPicks rings b)) (targetShort room needed) 7 refl e
 
 -- so does a target board
 module _ (rings : ℕ) (b : List ℕ) (room : ℕ) where
   pub target-refused : (n : ℕ) → (n ≡ 0 → ⊥) → n ≡ refusal (boardPicks rings b) → n ≡ refusal (targetPicks rings b room)
-  target-refused n z e = first-kept (pickedRows table (boardPicks rings b)) (record { holds = lengthWrong rings room; number = 6 } ∷ []) n z e
+  target-refused n z e = first-kept (pickedRows refusalTable (boardPicks rings b)) (record { holds = lengthWrong rings room; number = 6 } ∷ []) n z e
 
   pub target-decides : 0 ≡ refusal (boardPicks rings b) → refusal (targetPicks rings b room) ≡ cond (lengthWrong rings room) 6 0
-  target-decides e = one-more (pickedRows table (boardPicks rings b)) (lengthWrong rings room) 6 refl e
+  target-decides e = one-more (pickedRows refusalTable (boardPicks rings b)) (lengthWrong rings room) 6 refl e
 
   -- and a move after that
   pub move-refused : (move n : ℕ) → (n ≡ 0 → ⊥) → n ≡ refusal (targetPicks rings b room) → n ≡ refusal (movePicks rings b move room)
-  move-refused move n z e = first-kept (pickedRows table (targetPicks rings b room)) (record { holds = moveWrong rings b move; number = 8 } ∷ []) n z e
+  move-refused move n z e = first-kept (pickedRows refusalTable (targetPicks rings b room)) (record { holds = moveWrong rings b move; number = 8 } ∷ []) n z e
 
   pub move-decides : (move : ℕ) → 0 ≡ refusal (targetPicks rings b room) → refusal (movePicks rings b move room) ≡ cond (moveWrong rings b move) 8 0
-  move-decides move e = one-more (pickedRows table (targetPicks rings b room)) (moveWrong rings b move) 8 refl e
+  move-decides move e = one-more (pickedRows refusalTable (targetPicks rings b room)) (moveWrong rings b move) 8 refl e
 
   pub accepted-target : refusal (targetPicks rings b room) ≡ 0 → Accepted rings b × (room ≡ 8 * rings)
   accepted-target e =
-      let p = passed (pickedRows table (targetPicks rings b room)) refl e in (
-        accepted-board rings b (sym (passes (pickedRows table (boardPicks rings b)) (p .0, (p .1 .0, (p .1 .1 .0, (p .1 .1 .1 .0, tt)))))),
+      let p = passed (pickedRows refusalTable (targetPicks rings b room)) refl e in (
+        accepted-board rings b (sym (passes (pickedRows refusalTable (boardPicks rings b)) (p .0, (p .1 .0, (p .1 .1 .0, (p .1 .1 .1 .0, tt)))))),
         length-right rings room (p .1 .1 .1 .1 .0),
       )
 

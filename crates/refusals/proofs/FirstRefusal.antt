@@ -17,10 +17,10 @@ Passed (suc i) [] = Unit {0}
 Passed (suc i) (r ∷ rs) = (r .holds ≡ false) × Passed i rs
 
 -- the condition of row i holds
-abbrev pub Holds : ℕ → List Picked → Type 0
-Holds i [] = ⊥
-Holds zero (r ∷ rs) = r .holds ≡ true
-Holds (suc i) (r ∷ rs) = Holds i rs
+abbrev pub RowHolds : ℕ → List Picked → Type 0
+RowHolds i [] = ⊥
+RowHolds zero (r ∷ rs) = r .holds ≡ true
+RowHolds (suc i) (r ∷ rs) = RowHolds i rs
 
 abbrev pub numberAt : ℕ → List Picked → ℕ
 numberAt i [] = 0
@@ -28,7 +28,7 @@ numberAt zero (r ∷ rs) = r .number
 numberAt (suc i) (r ∷ rs) = numberAt i rs
 
 -- turned back at row i
-pub meets : (rs : List Picked) (i : ℕ) → Passed i rs → Holds i rs → numberAt i rs ≡ first rs
+pub meets : (rs : List Picked) (i : ℕ) → Passed i rs → RowHolds i rs → numberAt i rs ≡ first rs
 meets [] i p h = absurd h
 meets (r ∷ rs) zero p h = rw (h, first)
 meets (r ∷ rs) (suc i) p h = rw (p .0, first) (meets rs i (p .1) h)

@@ -13,7 +13,7 @@ use Rattle.board.specs.Board.{Values, setOf, count}
 use Rattle.board.proofs.Sides.{members-count}
 use Rattle.frames.specs.Frame.{frameWrong, frameLength, ringsIn, boardIn}
 use Rattle.frames.proofs.Characters.{board-length, no-three, three-none}
-use Rattle.refusals.specs.Refusals.{table, pickedRows, refusal}
+use Rattle.refusals.specs.Refusals.{refusalTable, pickedRows, refusal}
 use Rattle.refusals.specs.Conditions.{valueWrong, countsWrong, boardPicks, framePicks, readPicks}
 use Rattle.refusals.proofs.FirstRefusal.{meets, passes, passed, first-kept, one-more}
 use Rattle.refusals.proofs.Conditions.{rings-right, values-right, length-fine, values-fine}
@@ -40,7 +40,7 @@ pub record AcceptedFrame (f : List ℕ) : Type 0 where
 
 pub accepted-frame : (f : List ℕ) → refusal (framePicks f) ≡ 0 → AcceptedFrame f
 accepted-frame f e =
-    let p = passed (pickedRows table (framePicks f)) refl e in
+    let p = passed (pickedRows refusalTable (framePicks f)) refl e in
     let r = rings-right (ringsIn f) (p .1 .0) in
     let n = frameLength (ringsIn f) in
     let l : length f ≡ frameLength (ringsIn f) = eqb-true (length f) n (not-false (eqb (length f) n) (p .1 .1 .0)) in
@@ -55,7 +55,7 @@ accepted-frame f e =
 
 -- wrong characters come first
 pub characters-refused : (f : List ℕ) → frameWrong f ≡ true → 14 ≡ refusal (readPicks f)
-characters-refused f e = meets (pickedRows table (readPicks f)) 0 tt e
+characters-refused f e = meets (pickedRows refusalTable (readPicks f)) 0 tt e
 
 -- the stones of a frame are counted last
 abbrev pub stonesWrong : List ℕ → Bool
@@ -74,15 +74,15 @@ stones-are f w rings m o e =
     ∙ ap (λ (k : ℕ). countsWrong (8 * k) (count 1 (boardIn f)) (count 2 (boardIn f))) r
 
 pub frame-refused : (f : List ℕ) (n : ℕ) → (n ≡ 0 → ⊥) → n ≡ refusal (framePicks f) → n ≡ refusal (readPicks f)
-frame-refused f n z e = first-kept (pickedRows table (framePicks f)) (record { holds = stonesWrong f; number = 4 } ∷ []) n z e
+frame-refused f n z e = first-kept (pickedRows refusalTable (framePicks f)) (record { holds = stonesWrong f; number = 4 } ∷ []) n z e
 
 pub stones-decide : (f : List ℕ) → 0 ≡ refusal (framePicks f) → refusal (readPicks f) ≡ cond (stonesWrong f) 4 0
-stones-decide f e = one-more (pickedRows table (framePicks f)) (stonesWrong f) 4 refl e
+stones-decide f e = one-more (pickedRows refusalTable (framePicks f)) (stonesWrong f) 4 refl e
 
 -- the board of an accepted frame is an accepted board
 pub board-accepted : (f : List ℕ) → refusal (readPicks f) ≡ 0 → refusal (boardPicks (ringsIn f) (boardIn f)) ≡ 0
 board-accepted f e =
-    let p = passed (pickedRows table (readPicks f)) refl e in
-    let w = accepted-frame f (sym (passes (pickedRows table (framePicks f)) (p .0, (p .1 .0, (p .1 .1 .0, (p .1 .1 .1 .0, tt)))))) in
-    sym (passes (pickedRows table (boardPicks (ringsIn f) (boardIn f)))
+    let p = passed (pickedRows refusalTable (readPicks f)) refl e in
+    let w = accepted-frame f (sym (passes (pickedRows refusalTable (framePicks f)) (p .0, (p .1 .0, (p .1 .1 .0, (p .1 .1 .1 .0, tt)))))) in
+    sym (passes (pickedRows refusalTable (boardPicks (ringsIn f) (boardIn f)))
     (p .1 .0, (length-fine (ringsIn f) (length (boardIn f)) (w .points), (p .1 .1 .1 .0, (p .1 .1 .1 .1 .0, tt)))))

@@ -13,11 +13,11 @@ use Rattle.layout.specs.Layout.{tablebaseLength}
 use Rattle.layout.proofs.OneToOne.{IsTable}
 use Rattle.outcomes.specs.Places.{entryAt, isVoid, successorVoid, lowerVoid}
 use Rattle.outcomes.proofs.Boards.{InTables}
-use Rattle.refusals.specs.Refusals.{Picked, table, pickedRows, refusal}
+use Rattle.refusals.specs.Refusals.{Picked, refusalTable, pickedRows, refusal}
 use Rattle.refusals.specs.Conditions.{countAbove, largestWrong, tablebaseWrong, largestLimit, limitWrong, moverBlocked}
 use Rattle.refusals.specs.Conditions.{boardPicks, stonesPicks, largestPicks, tablebasePicks, lookupPicks, bestMovePicks, limitPicks, fillPicks, tablesPicks, pairPicks}
 use Rattle.refusals.proofs.FirstRefusal.{passed, first-kept, first-after, both-passed, first-cons, one-more}
-use Rattle.refusals.proofs.Conditions.{Counted, Accepted, rings-right, counts-right, accepted-board}
+use Rattle.refusals.proofs.Conditions.{RightCounts, Accepted, rings-right, counts-right, accepted-board}
 
 -- what a right K is, and that no count is above it
 pub record Largest (k : ℕ) (above : Bool) : Type 0 where
@@ -33,7 +33,7 @@ largest-right k above e =
     record { low = ltb-false k 3 (or-left a b d); high = ltb-false 9 k (or-right a b d); none-above = or-right (a || b) above e }
 
 -- counts that are not above K are those of a table
-table-right : (points k m o : ℕ) → Counted points m o → countAbove k m o ≡ false → IsTable points k m o
+table-right : (points k m o : ℕ) → RightCounts points m o → countAbove k m o ≡ false → IsTable points k m o
 table-right points k m o w e = record {
   mover-low = w .mover-low;
   mover-high = ltb-false k m (or-left (ltb k m) (ltb k o) e);
@@ -71,13 +71,14 @@ pub record AcceptedEntry (rings : ℕ) (b : List ℕ) (k n : ℕ) : Type 0 where
 pub both-right : (rings : ℕ) (b : List ℕ) (k n : ℕ) → refusal (tablebasePicks rings b k n) ≡ 0
     → (refusal (boardPicks rings b) ≡ 0) × (refusal (largestPicks rings k (countAbove k (count 1 b) (count 2 b)) n) ≡ 0)
 both-right rings b k n e =
-    both-passed (pickedRows table (boardPicks rings b)) (pickedRows table (largestPicks rings k (countAbove k (count 1 b) (count 2 b)) n)) refl e
+    both-passed (pickedRows refusalTable (boardPicks rings b)) (pickedRows refusalTable
+    (largestPicks rings k (countAbove k (count 1 b) (count 2 b)) n)) refl e
 
 pub accepted-entry : (rings : ℕ) (b : List ℕ) (k n : ℕ) → refusal (tablebasePicks rings b k n) ≡ 0 → AcceptedEntry rings b k n
 accepted-entry rings b k n e =
     let above = countAbove k (count 1 b) (count 2 b) in
     let p = both-right rings b k n e in
-    let q = passed (pickedRows table (largestPicks rings k above n)) refl (p .1) in
+    let q = passed (pickedRows refusalTable (largestPicks rings k above n)) refl (p .1) in
     let w = accepted-board rings b (p .0) in
     let l = largest-right k above (q .0) in
     let t = table-right (8 * rings) k (count 1 b) (count 2 b) (w .counted) (l .none-above) in
@@ -94,7 +95,7 @@ pub record AcceptedFill (rings k limit n : ℕ) : Type 0 where
 
 pub accepted-fill : (rings k limit n : ℕ) → refusal (fillPicks rings k limit n) ≡ 0 → AcceptedFill rings k limit n
 accepted-fill rings k limit n e =
-    let p = passed (pickedRows table (fillPicks rings k limit n)) refl e in
+    let p = passed (pickedRows refusalTable (fillPicks rings k limit n)) refl e in
     record {
       tablebase = tablebase-right rings k false n (rings-right rings (p .0)) (largest-right k false (p .1 .0)) (p .1 .1 .0);
       limit-high = ltb-false largestLimit limit (p .1 .1 .1 .0);
@@ -108,7 +109,7 @@ pub record AcceptedPair (rings m o k limit n : ℕ) : Type 0 where
 
 pub accepted-pair : (rings m o k limit n : ℕ) → refusal (tablesPicks rings m o k limit n) ≡ 0 → AcceptedPair rings m o k limit n
 accepted-pair rings m o k limit n e =
-    let p = passed (pickedRows table (tablesPicks rings m o k limit n)) refl e in
+    let p = passed (pickedRows refusalTable (tablesPicks rings m o k limit n)) refl e in
     let l = largest-right k (countAbove k m o) (p .1 .1 .0) in
     record {
       tablebase = tablebase-right rings k (countAbove k m o) n (rings-right rings (p .0)) l (p .1 .1 .1 .0);
@@ -119,51 +120,51 @@ accepted-pair rings m o k limit n e =
 -- K, the limit and the tablebase come after the counts of a pair
 module _ (rings m o k limit n : ℕ) where
   abbrev later : List Picked
-  later = pickedRows table (limitPicks rings k (countAbove k m o) limit n)
+  later = pickedRows refusalTable (limitPicks rings k (countAbove k m o) limit n)
 
   pub tables-refused : (r : ℕ) → (r ≡ 0 → ⊥) → r ≡ refusal (stonesPicks rings m o) → r ≡ refusal (tablesPicks rings m o k limit n)
-  tables-refused r z e = first-kept (pickedRows table (stonesPicks rings m o)) later r z e
+  tables-refused r z e = first-kept (pickedRows refusalTable (stonesPicks rings m o)) later r z e
 
   pub tables-decides : 0 ≡ refusal (stonesPicks rings m o)
       → refusal (tablesPicks rings m o k limit n) ≡ refusal (limitPicks rings k (countAbove k m o) limit n)
-  tables-decides e = first-after (pickedRows table (stonesPicks rings m o)) later refl e
+  tables-decides e = first-after (pickedRows refusalTable (stonesPicks rings m o)) later refl e
 
 -- a limit comes after K and the tablebase
 module _ (rings k : ℕ) (above : Bool) (limit n : ℕ) where
   pub limit-refused : (r : ℕ) → (r ≡ 0 → ⊥) → r ≡ refusal (largestPicks rings k above n) → r ≡ refusal (limitPicks rings k above limit n)
-  limit-refused r z e = first-kept (pickedRows table (largestPicks rings k above n)) (record { holds = limitWrong limit; number = 10 } ∷ []) r z e
+  limit-refused r z e = first-kept (pickedRows refusalTable (largestPicks rings k above n)) (record { holds = limitWrong limit; number = 10 } ∷ []) r z e
 
   pub limit-decides : 0 ≡ refusal (largestPicks rings k above n) → refusal (limitPicks rings k above limit n) ≡ cond (limitWrong limit) 10 0
-  limit-decides e = one-more (pickedRows table (largestPicks rings k above n)) (limitWrong limit) 10 refl e
+  limit-decides e = one-more (pickedRows refusalTable (largestPicks rings k above n)) (limitWrong limit) 10 refl e
 
 -- the entries read come after board and tablebase: the one looked up
 module _ (rings : ℕ) (b : List ℕ) (k : ℕ) (tablebase : List ℕ) where
   pub lookup-refused : (n : ℕ) → (n ≡ 0 → ⊥) → n ≡ refusal (tablebasePicks rings b k (length tablebase)) → n ≡ refusal (lookupPicks rings b k tablebase)
   lookup-refused n z e =
-      first-kept (pickedRows table (tablebasePicks rings b k (length tablebase)))
+      first-kept (pickedRows refusalTable (tablebasePicks rings b k (length tablebase)))
       (record { holds = isVoid (entryAt rings k tablebase b); number = 12 } ∷ []) n z e
 
   pub lookup-decides : 0 ≡ refusal (tablebasePicks rings b k (length tablebase))
       → refusal (lookupPicks rings b k tablebase) ≡ cond (isVoid (entryAt rings k tablebase b)) 12 0
-  lookup-decides e = one-more (pickedRows table (tablebasePicks rings b k (length tablebase))) (isVoid (entryAt rings k tablebase b)) 12 refl e
+  lookup-decides e = one-more (pickedRows refusalTable (tablebasePicks rings b k (length tablebase))) (isVoid (entryAt rings k tablebase b)) 12 refl e
 
   -- no refusal at all: none before the entry is read
   pub lookup-before : refusal (lookupPicks rings b k tablebase) ≡ 0 → refusal (tablebasePicks rings b k (length tablebase)) ≡ 0
   lookup-before e =
-      both-passed (pickedRows table (tablebasePicks rings b k (length tablebase)))
+      both-passed (pickedRows refusalTable (tablebasePicks rings b k (length tablebase)))
       (record { holds = isVoid (entryAt rings k tablebase b); number = 12 } ∷ []) refl e .0
 
   -- those of the successors, where the mover is not blocked
   pub best-move-refused : (n : ℕ) → (n ≡ 0 → ⊥) → n ≡ refusal (tablebasePicks rings b k (length tablebase)) → n ≡ refusal (bestMovePicks rings b k tablebase)
   best-move-refused n z e =
-      first-kept (pickedRows table (tablebasePicks rings b k (length tablebase)))
+      first-kept (pickedRows refusalTable (tablebasePicks rings b k (length tablebase)))
       (record { holds = moverBlocked rings b; number = 9 } ∷ record { holds = successorVoid rings k tablebase b; number = 12 } ∷ []) n z e
 
   pub best-move-decides : 0 ≡ refusal (tablebasePicks rings b k (length tablebase))
       → refusal (bestMovePicks rings b k tablebase) ≡ cond (moverBlocked rings b) 9 (cond (successorVoid rings k tablebase b) 12 0)
   best-move-decides e =
       let last : List Picked = record { holds = successorVoid rings k tablebase b; number = 12 } ∷ [] in
-      first-after (pickedRows table (tablebasePicks rings b k (length tablebase))) (record { holds = moverBlocked rings b; number = 9 } ∷ last) refl e
+      first-after (pickedRows refusalTable (tablebasePicks rings b k (length tablebase))) (record { holds = moverBlocked rings b; number = 9 } ∷ last) refl e
       ∙ first-cons (moverBlocked rings b) 9 last ∙ ap (cond (moverBlocked rings b) 9) (first-cons (successorVoid rings k tablebase b) 12 [])
 
 -- those of a pair's lower tables
@@ -171,15 +172,16 @@ module _ (rings m o k limit : ℕ) (tablebase : List ℕ) where
   pub pair-refused : (n : ℕ) → (n ≡ 0 → ⊥) → n ≡ refusal (tablesPicks rings m o k limit (length tablebase))
       → n ≡ refusal (pairPicks rings m o k limit tablebase)
   pair-refused n z e =
-      first-kept (pickedRows table (tablesPicks rings m o k limit (length tablebase)))
+      first-kept (pickedRows refusalTable (tablesPicks rings m o k limit (length tablebase)))
       (record { holds = lowerVoid rings k tablebase m o; number = 12 } ∷ []) n z e
 
   pub pair-decides : 0 ≡ refusal (tablesPicks rings m o k limit (length tablebase))
       → refusal (pairPicks rings m o k limit tablebase) ≡ cond (lowerVoid rings k tablebase m o) 12 0
-  pair-decides e = one-more (pickedRows table (tablesPicks rings m o k limit (length tablebase))) (lowerVoid rings k tablebase m o) 12 refl e
+  pair-decides e = one-more (pickedRows refusalTable (tablesPicks rings m o k limit (length tablebase))) (lowerVoid rings k tablebase m o) 12 refl e
 
   -- no refusal at all: none before the lower tables are read
   pub pair-before : refusal (pairPicks rings m o k limit tablebase) ≡ 0 → refusal (tablesPicks rings m o k limit (length tablebase)) ≡ 0
   pair-before e =
-      both-passed (pickedRows table (tablesPicks rings m o k limit (length tablebase))) (record { holds = lowerVoid rings k tablebase m o; number = 12 } ∷ [])
+      both-passed (pickedRows refusalTable (tablesPicks rings m o k limit (length tablebase)))
+      (record { holds = lowerVoid rings k tablebase m o; number = 12 } ∷ [])
       refl e .0

@@ -12,7 +12,7 @@ use Rattle.rules.specs.Ply.{listedMoves}
 use Rattle.frames.specs.Frame.{frameWrong, frameLength, ringsIn, boardIn}
 use Rattle.outcomes.specs.Places.{entryAt, isVoid, successorVoid, lowerVoid}
 use Rattle.refusals.specs.Refusals.{Pick, pick, wrongFrame, wrongRings, wrongLength, wrongValue, wrongCounts}
-use Rattle.refusals.specs.Refusals.{wrongLargest, wrongTablebase, wrongLimit, wrongTarget, shortTarget, wrongRank, wrongMove, blockedMover, voidEntry}
+use Rattle.refusals.specs.Refusals.{wrongLargest, wrongTablebase, wrongLimit, wrongTarget, shortTarget, wrongRank, wrongMove, blockedMover, voidRead}
 
 -- 1: not 1, 2 or 3
 abbrev pub ringsWrong : ℕ → Bool
@@ -114,12 +114,12 @@ tablebasePicks rings b k n = largestPicks rings k (countAbove k (count 1 b) (cou
 
 -- and for the entry looked up besides; 12: void there
 abbrev pub lookupPicks : ℕ → List ℕ → ℕ → List ℕ → List Pick
-lookupPicks rings b k tablebase = pick voidEntry (isVoid (entryAt rings k tablebase b)) ∷ tablebasePicks rings b k (length tablebase)
+lookupPicks rings b k tablebase = pick voidRead (isVoid (entryAt rings k tablebase b)) ∷ tablebasePicks rings b k (length tablebase)
 
 -- and for a best move instead; 12: void in any successor
 abbrev pub bestMovePicks : ℕ → List ℕ → ℕ → List ℕ → List Pick
 bestMovePicks rings b k tablebase =
-    pick blockedMover (moverBlocked rings b) ∷ pick voidEntry (successorVoid rings k tablebase b) ∷ tablebasePicks rings b k (length tablebase)
+    pick blockedMover (moverBlocked rings b) ∷ pick voidRead (successorVoid rings k tablebase b) ∷ tablebasePicks rings b k (length tablebase)
 
 -- what a call picks for K, a limit and a tablebase of so many entries to fill, by whether a count is above K
 abbrev pub limitPicks : ℕ → ℕ → Bool → ℕ → ℕ → List Pick
@@ -135,7 +135,7 @@ tablesPicks rings m o k limit n = limitPicks rings k (countAbove k m o) limit n 
 
 -- and for the lower tables besides; 12: void there
 abbrev pub pairPicks : ℕ → ℕ → ℕ → ℕ → ℕ → List ℕ → List Pick
-pairPicks rings m o k limit tablebase = pick voidEntry (lowerVoid rings k tablebase m o) ∷ tablesPicks rings m o k limit (length tablebase)
+pairPicks rings m o k limit tablebase = pick voidRead (lowerVoid rings k tablebase m o) ∷ tablesPicks rings m o k limit (length tablebase)
 
 -- what a call picks for a frame
 abbrev pub framePicks : List ℕ → List Pick

@@ -8,29 +8,29 @@ use lib.Dec.{eqb}
 -- the conditions, by what is wrong
 pub data Condition : Type 0 where
   wrongFrame wrongRings wrongLength wrongValue wrongCounts wrongLargest wrongTablebase wrongLimit : Condition
-  wrongTarget shortTarget wrongRank wrongMove blockedMover voidEntry tooDeep : Condition
+  wrongTarget shortTarget wrongRank wrongMove blockedMover voidRead tooDeep : Condition
 
 -- a row: a condition, and the number of its refusal
 pub record Row : Type 0 where
   pub condition : Condition
   pub number : ℕ
 
-abbrev pub row : Condition → ℕ → Row
-row c n = record { condition = c; number = n }
+abbrev pub refusalRow : Condition → ℕ → Row
+refusalRow c n = record { condition = c; number = n }
 
 -- the table, a line for each place
-abbrev pub table : List Row
-table =
-    row wrongFrame 14
-    ∷ row wrongRings 1
-    ∷ row wrongLength 2 ∷ row wrongValue 3
-    ∷ row wrongCounts 4
-    ∷ row wrongLargest 11 ∷ row wrongTablebase 6
-    ∷ row wrongLimit 10
-    ∷ row wrongTarget 6 ∷ row shortTarget 7
-    ∷ row wrongRank 5 ∷ row wrongMove 8 ∷ row blockedMover 9
-    ∷ row voidEntry 12
-    ∷ row tooDeep 13
+abbrev pub refusalTable : List Row
+refusalTable =
+    refusalRow wrongFrame 14
+    ∷ refusalRow wrongRings 1
+    ∷ refusalRow wrongLength 2 ∷ refusalRow wrongValue 3
+    ∷ refusalRow wrongCounts 4
+    ∷ refusalRow wrongLargest 11 ∷ refusalRow wrongTablebase 6
+    ∷ refusalRow wrongLimit 10
+    ∷ refusalRow wrongTarget 6 ∷ refusalRow shortTarget 7
+    ∷ refusalRow wrongRank 5 ∷ refusalRow wrongMove 8 ∷ refusalRow blockedMover 9
+    ∷ refusalRow voidRead 12
+    ∷ refusalRow tooDeep 13
     ∷ []
 
 -- conditions told apart
@@ -48,7 +48,7 @@ index shortTarget = 9
 index wrongRank = 10
 index wrongMove = 11
 index blockedMover = 12
-index voidEntry = 13
+index voidRead = 13
 index tooDeep = 14
 
 -- what a call picks of the table: a condition that concerns its arguments, and whether it holds
@@ -82,4 +82,4 @@ first (r ∷ rs) = elim (r .holds) [ true ↦ r .number | false ↦ first rs ]
 
 -- the refusal that a call meets, 0 for none
 abbrev pub refusal : List Pick → ℕ
-refusal ps = first (pickedRows table ps)
+refusal ps = first (pickedRows refusalTable ps)

@@ -4,7 +4,7 @@ ghost use Prim.Native.Nat.{_≤_};
 ghost use lib.ListN.{length};
 ghost use Rattle.sets.specs.Sets.{members};
 ghost use Rattle.board.specs.Board.{count};
-ghost use Rattle.sizes.specs.Binomial.{BinomialTable};
+ghost use Rattle.sizes.specs.Inner.Binomial.{BinomialTable};
 ghost use Rattle.refusals.specs.Refusals.{refusal};
 ghost use Rattle.refusals.specs.Conditions.{ringsWrong, valueWrong, countsWrong, countAbove, largestWrong, tablebaseWrong, limitWrong};
 ghost use Rattle.refusals.specs.Conditions.{boardPicks, stonesPicks, countsPicks, targetPicks, framePicks};
@@ -35,7 +35,7 @@ const LIMIT: u8 = 10;
 
 const LARGEST: u8 = 11;
 
-pub const VOID: u8 = 12;
+pub const VOID_READ: u8 = 12;
 
 pub const TOO_DEEP: u8 = 13;
 

@@ -7,7 +7,7 @@ use Prim.Native.Nat.{ℕ}
 use lib.Dec.{eqb}
 use Rattle.lists.specs.Lists.{all}
 use Rattle.board.specs.Geometry.{points, follows, inward, adjoin, ringMills, crossMills, mills}
-use Rattle.rules.specs.Ply.{holding, inMill, targets, slide, unshielded, removable, removals, moves, remove, exchange, afterPly}
+use Rattle.rules.specs.Ply.{holding, inMill, destinations, slide, unshielded, removable, removals, moves, remove, exchange, afterPly}
 
 -- a board read from its highest point down, and its moves
 pub record Worked : Type 0 where
@@ -48,7 +48,7 @@ boards =
     ∷ []
 
 pub worked-hold : all (λ w. holdsAt w) boards ≡ true
-unfolding holdsAt moves holding inMill targets slide unshielded removable removals points follows inward adjoin ringMills crossMills mills
+unfolding holdsAt moves holding inMill destinations slide unshielded removable removals points follows inward adjoin ringMills crossMills mills
 worked-hold = refl
 
 -- a board, one of its moves, and the board after it

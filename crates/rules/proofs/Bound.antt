@@ -20,8 +20,9 @@ use Rattle.board.specs.Board.{Values, count, setOf}
 use Rattle.board.proofs.Sides.{members-count}
 use Rattle.board.proofs.Counts.{count-all}
 use Rattle.board.proofs.Geometry.{neighbours-are, neighbours-within, neighbours-few}
-use Rattle.rules.specs.Ply.{holds, holding, inMill, targets, slide, unshielded, removable, noRemoval, removals, moveNumber, slideMoves, stoneMoves, moves}
-use Rattle.rules.proofs.Listed.{holding-is, target-vacant}
+use Rattle.rules.specs.Ply.{holds, holding, inMill, destinations, slide, unshielded, removable, noRemoval, removals, moveNumber, slideMoves}
+use Rattle.rules.specs.Ply.{stoneMoves, moves}
+use Rattle.rules.proofs.Listed.{holding-is, destination-vacant}
 use Rattle.rules.proofs.Leads.{slide-length, slide-counts}
 use Rattle.rules.proofs.OnSets.{holding-set}
 
@@ -47,10 +48,10 @@ module _ (rings : ℕ) (small : rings ≤ 3) where
 
   module _ (b : List ℕ) (whole : length b ≡ 8 * rings) (values : Values b) (m : count 1 b ≤ 9) (some : 1 ≤ count 2 b) (o : count 2 b ≤ 9) where
     -- a stone's moves to one point
-    slide-few : (from to : ℕ) → getD b from 0 ≡ 1 → from < 8 * rings → List·Memᴰ to (targets rings b from)
+    slide-few : (from to : ℕ) → getD b from 0 ≡ 1 → from < 8 * rings → List·Memᴰ to (destinations rings b from)
         → length (slideMoves (λ n c. removable n c) rings b from to) ≤ count 2 b
     slide-few from to own low t =
-        let v = target-vacant rings b from to t in
+        let v = destination-vacant rings b from to t in
         let hf : from < length b = omega (arith, whole) in
         let ht : to < length b = omega (arith, whole, v .0) in
         let n = slide-counts b from to hf ht own (v .1) in
@@ -63,13 +64,13 @@ module _ (rings : ℕ) (small : rings ≤ 3) where
         )
 
     -- three stones: as many points as are vacant
-    jump-few : (from : ℕ) → length (targets rings b from) ≤ count 0 b
-    unfolding targets
+    jump-few : (from : ℕ) → length (destinations rings b from) ≤ count 0 b
+    unfolding destinations
     jump-few from = omega (arith, keep-le (λ to. eqb (count 1 b) 3 || adjoin from to) (holding rings b 0), length-holding b whole 0)
 
     -- else four at the most
-    near-few : (count 1 b ≡ 3 → ⊥) → (from : ℕ) → from < 24 → length (targets rings b from) ≤ 4
-    unfolding targets holding
+    near-few : (count 1 b ≡ 3 → ⊥) → (from : ℕ) → from < 24 → length (destinations rings b from) ≤ 4
+    unfolding destinations holding
     near-few n from h =
         let same : keep (λ to. eqb (count 1 b) 3 || adjoin from to) (points rings) ≡ neighbours rings from =
         keep-same (λ to. eqb (count 1 b) 3 || adjoin from to) (λ to. adjoin from to) (points rings)
@@ -84,20 +85,20 @@ module _ (rings : ℕ) (small : rings ≤ 3) where
           neighbours-few from h,
         )
 
-    stone-few : (k : ℕ) → ((from : ℕ) → from < 24 → length (targets rings b from) ≤ k) → (from : ℕ) → List·Memᴰ from (holding rings b 1)
-        → length (stoneMoves (λ n c. removable n c) rings b from (targets rings b from)) ≤ k * count 2 b
+    stone-few : (k : ℕ) → ((from : ℕ) → from < 24 → length (destinations rings b from) ≤ k) → (from : ℕ) → List·Memᴰ from (holding rings b 1)
+        → length (stoneMoves (λ n c. removable n c) rings b from (destinations rings b from)) ≤ k * count 2 b
     stone-few k few from i =
         let h = holding-is rings b 1 from i in
-        le-trans (each-le (λ to. slideMoves (λ n c. removable n c) rings b from to) (count 2 b) (targets rings b from)
+        le-trans (each-le (λ to. slideMoves (λ n c. removable n c) rings b from to) (count 2 b) (destinations rings b from)
         (λ to t. slide-few from to (h .1) (h .0) t))
         (mul-le-mul-right (count 2 b) (few from (omega (arith, h .0))))
 
-    all-few : (k : ℕ) → ((from : ℕ) → from < 24 → length (targets rings b from) ≤ k)
+    all-few : (k : ℕ) → ((from : ℕ) → from < 24 → length (destinations rings b from) ≤ k)
         → length (moves (λ n c. removable n c) rings b) ≤ count 1 b * (k * count 2 b)
     unfolding moves
     all-few k few =
         subst (λ (n : ℕ). length (moves (λ n c. removable n c) rings b) ≤ n * (k * count 2 b)) (length-holding b whole 1)
-        (each-le (λ from. stoneMoves (λ n c. removable n c) rings b from (targets rings b from)) (k * count 2 b) (holding rings b 1)
+        (each-le (λ from. stoneMoves (λ n c. removable n c) rings b from (destinations rings b from)) (k * count 2 b) (holding rings b 1)
         (λ from i. stone-few k few from i))
 
     pub moves-bound : length (moves (λ n c. removable n c) rings b) ≤ 324

@@ -16,7 +16,7 @@ use Rattle.board.specs.Board.{Values, count, digit}
 use Rattle.rules.specs.Ply.{holds, holding, inMill, slide, noRemoval, removals, remove, exchange, successors}
 use Rattle.rules.specs.Predecessors.{moved, origins, unslide, restored, predecessors}
 use Rattle.rules.proofs.Listed.{Move, move-of, holding-is, is-holding, removals-without, successor-of, TakesOpponent}
-use Rattle.rules.proofs.Leads.{Removed, Before, removed-of, removed-before, listed-parts, after-parts, remove-none, remove-one}
+use Rattle.rules.proofs.Leads.{Removed, BeforeExchange, removed-of, removed-before, listed-parts, after-parts, remove-none, remove-one}
 use Rattle.rules.proofs.Leads.{exchange-at, exchange-counts, exchange-values, slide-counts, slide-length, slide-values, count-set, values-set}
 use Rattle.rules.proofs.Mills.{in-mill-same}
 
@@ -132,7 +132,7 @@ module _ (rule : ℕ → List ℕ → List ℕ) (rings : ℕ) (small : rings ≤
   reach-kept : (d : List ℕ) → count 1 d ≡ count 1 b → (eqb (count 1 d) 3 || adjoin from to) ≡ true
   reach-kept d e = ap (λ (n : ℕ). eqb n 3 || adjoin from to) e ∙ m .reach
 
-  found-none : Before b slid r → List·Memᴰ b (predecessors false rings (map (λ x. exchange x) slid))
+  found-none : BeforeExchange b slid r → List·Memᴰ b (predecessors false rings (map (λ x. exchange x) slid))
   unfolding moved restored
   found-none w =
       is-predecessor false rings (after rings slid (w .values)) b from to
@@ -140,7 +140,7 @@ module _ (rule : ℕ → List ℕ → List ℕ) (rings : ℕ) (small : rings ≤
       (origin-after rings slid (w .values) from to (m .from-low) at-from (reach-kept slid (w .mover)))
       (List·Memᴰ·head (sym (back-after rings slid (w .values) from to ∙ back)))
 
-  module _ (low : r < 8 * rings) (taken : getD slid r 0 ≡ 2) (w : Before b (set slid r 0) r) where
+  module _ (low : r < 8 * rings) (taken : getD slid r 0 ≡ 2) (w : BeforeExchange b (set slid r 0) r) where
     abbrev left : List ℕ
     left = set slid r 0
 
@@ -184,13 +184,13 @@ module _ (rule : ℕ → List ℕ → List ℕ) (rings : ℕ) (small : rings ≤
         (ap not (ne-eqb r from (λ e. from-stays (sym e)))))))
 
 -- b is among the boards before c, by a ply that removed no stone or by one that removed one
-abbrev pub Found : ℕ → List ℕ → List ℕ → Type 0
-Found rings b c =
+abbrev pub Predecessor : ℕ → List ℕ → List ℕ → Type 0
+Predecessor rings b c =
     (List·Memᴰ b (predecessors false rings c) × (count 1 c ≡ count 2 b)) ⊎ (List·Memᴰ b (predecessors true rings c) × (suc (count 1 c) ≡ count 2 b))
 
 module _ (rule : ℕ → List ℕ → List ℕ) (takes : TakesOpponent rule) (rings : ℕ) (small : rings ≤ 3) (b : List ℕ) (v : Values b)
     (points : length b ≡ 8 * rings) where
-  found-move : (from to r : ℕ) → Move rule rings b from to r → Found rings b (map (λ x. exchange x) (remove (slide b from to) r))
+  found-move : (from to r : ℕ) → Move rule rings b from to r → Predecessor rings b (map (λ x. exchange x) (remove (slide b from to) r))
   found-move from to r m =
       let g = removed-of rule takes rings small b v points from to r m in
       let w = removed-before b from to r (omega (arith, m .from-low)) (omega (arith, m .to-low)) (m .own) (m .vacant) v g in
@@ -199,8 +199,8 @@ module _ (rule : ℕ → List ℕ → List ℕ) (takes : TakesOpponent rule) (ri
       left : List ℕ
       left = remove (slide b from to) r
 
-      go : Removed (slide b from to) r → Before b left r → count 1 (map (λ x. exchange x) left) ≡ count 2 left
-          → ((r ≡ noRemoval) × (count 2 left ≡ count 2 b)) ⊎ ((r < 24) × (suc (count 2 left) ≡ count 2 b)) → Found rings b (map (λ x. exchange x) left)
+      go : Removed (slide b from to) r → BeforeExchange b left r → count 1 (map (λ x. exchange x) left) ≡ count 2 left
+          → ((r ≡ noRemoval) × (count 2 left ≡ count 2 b)) ⊎ ((r < 24) × (suc (count 2 left) ≡ count 2 b)) → Predecessor rings b (map (λ x. exchange x) left)
       go g w n (inl x) =
           let e = remove-none (slide b from to) r (x .0) in
           inl (rw e (found-none rule rings small b points from to r m (rw e at w)), n ∙ x .1)
@@ -209,7 +209,7 @@ module _ (rule : ℕ → List ℕ → List ℕ) (takes : TakesOpponent rule) (ri
           let e = remove-one (slide b from to) r (λ z. omega (arith, x .0)) in
           inr (rw e (found-one rule rings small b points from to r m (omega (arith, y .0, slide-length b from to)) (y .2) (rw e at w)), ap suc n ∙ x .1)
 
-  pub found : (c : List ℕ) → List·Memᴰ c (successors rule rings b) → Found rings b c
+  pub found : (c : List ℕ) → List·Memᴰ c (successors rule rings b) → Predecessor rings b c
   found c i =
       let s = successor-of rule rings b c i in
       let l = move-of rule rings b (s .0) (s .1) in

@@ -131,13 +131,13 @@ pub record Leads (b c : List ℕ) (removed : ℕ) : Type 0 where
   pub mover : MoverLeft b c removed
 
 -- the board once the stone has slid and the removal is made, before the sides change names
-pub record Before (b c : List ℕ) (removed : ℕ) : Type 0 where
+pub record BeforeExchange (b c : List ℕ) (removed : ℕ) : Type 0 where
   pub values : Values c
   pub points : length c ≡ length b
   pub mover : count 1 c ≡ count 1 b
   pub opponent : ((removed ≡ noRemoval) × (count 2 c ≡ count 2 b)) ⊎ ((removed < 24) × (suc (count 2 c) ≡ count 2 b))
 
-exchanged : (b c : List ℕ) (removed : ℕ) → Before b c removed → Leads b (map (λ v. exchange v) c) removed
+exchanged : (b c : List ℕ) (removed : ℕ) → BeforeExchange b c removed → Leads b (map (λ v. exchange v) c) removed
 exchanged b c removed w = let s = exchange-counts c (w .values) in
     record { values = exchange-values c; points = length-map c (λ v. exchange v) ∙ w .points; opponent = s .1 ∙ w .mover; mover = go (s .0) (w .opponent) }
   where
@@ -147,7 +147,7 @@ exchanged b c removed w = let s = exchange-counts c (w .values) in
     go q (inr x) = inr (x .0, ap suc q ∙ x .1)
 
 pub removed-before : (b : List ℕ) (from to r : ℕ) → from < length b → to < length b → getD b from 0 ≡ 1 → getD b to 0 ≡ 0 → Values b
-    → Removed (slide b from to) r → Before b (remove (slide b from to) r) r
+    → Removed (slide b from to) r → BeforeExchange b (remove (slide b from to) r) r
 unfolding remove
 removed-before b from to r hf ht own vacant d g = go g
   where
@@ -157,7 +157,7 @@ removed-before b from to r hf ht own vacant d g = go g
     n : (count 1 (slide b from to) ≡ count 1 b) × (count 2 (slide b from to) ≡ count 2 b)
     n = slide-counts b from to hf ht own vacant
 
-    go : Removed (slide b from to) r → Before b (remove (slide b from to) r) r
+    go : Removed (slide b from to) r → BeforeExchange b (remove (slide b from to) r) r
     go (inl e) = rw (eq-eqb r noRemoval e, remove)
         record { values = dc; points = slide-length b from to; mover = n .0; opponent = inl (e, n .1) }
     go (inr h) =

@@ -13,7 +13,8 @@ use Rattle.lists.proofs.Members.{keep-member, member-keep, each-member, member-
 use Rattle.board.specs.Geometry.{points, adjoin}
 use Rattle.board.specs.Board.{count}
 use Rattle.board.proofs.Geometry.{point-low, low-point}
-use Rattle.rules.specs.Ply.{holds, holding, inMill, targets, slide, unshielded, removable, noRemoval, removals, moveNumber, stoneMoves, moves, afterPly, successors}
+use Rattle.rules.specs.Ply.{holds, holding, inMill, destinations, slide, unshielded, removable, noRemoval, removals, moveNumber, stoneMoves, moves}
+use Rattle.rules.specs.Ply.{afterPly, successors}
 
 module _ (rings : ℕ) (b : List ℕ) (v p : ℕ) where
   pub holding-is : List·Memᴰ p (holding rings b v) → (p < 8 * rings) × (getD b p 0 ≡ v)
@@ -27,19 +28,19 @@ module _ (rings : ℕ) (b : List ℕ) (v p : ℕ) where
   is-holding h e = member-keep (holds b v) (points rings) (low-point rings p h) (eq-eqb (getD b p 0) v e)
 
 -- a stone goes to a vacant point
-pub target-vacant : (rings : ℕ) (b : List ℕ) (from to : ℕ) → List·Memᴰ to (targets rings b from) → (to < 8 * rings) × (getD b to 0 ≡ 0)
-unfolding targets
-target-vacant rings b from to m = holding-is rings b 0 to (keep-member (λ q. eqb (count 1 b) 3 || adjoin from q) (holding rings b 0) m .0)
+pub destination-vacant : (rings : ℕ) (b : List ℕ) (from to : ℕ) → List·Memᴰ to (destinations rings b from) → (to < 8 * rings) × (getD b to 0 ≡ 0)
+unfolding destinations
+destination-vacant rings b from to m = holding-is rings b 0 to (keep-member (λ q. eqb (count 1 b) 3 || adjoin from q) (holding rings b 0) m .0)
 
 -- that is a neighbour, or any with exactly three stones
-pub target-of : (rings : ℕ) (b : List ℕ) (from to : ℕ) → List·Memᴰ to (targets rings b from) → (eqb (count 1 b) 3 || adjoin from to) ≡ true
-unfolding targets
-target-of rings b from to m = keep-member (λ q. eqb (count 1 b) 3 || adjoin from q) (holding rings b 0) m .1
+pub destination-of : (rings : ℕ) (b : List ℕ) (from to : ℕ) → List·Memᴰ to (destinations rings b from) → (eqb (count 1 b) 3 || adjoin from to) ≡ true
+unfolding destinations
+destination-of rings b from to m = keep-member (λ q. eqb (count 1 b) 3 || adjoin from q) (holding rings b 0) m .1
 
-pub of-target : (rings : ℕ) (b : List ℕ) (from to : ℕ) → to < 8 * rings → getD b to 0 ≡ 0 → (eqb (count 1 b) 3 || adjoin from to) ≡ true
-    → List·Memᴰ to (targets rings b from)
-unfolding targets
-of-target rings b from to h v r = member-keep (λ q. eqb (count 1 b) 3 || adjoin from q) (holding rings b 0) (is-holding rings b 0 to h v) r
+pub of-destination : (rings : ℕ) (b : List ℕ) (from to : ℕ) → to < 8 * rings → getD b to 0 ≡ 0 → (eqb (count 1 b) 3 || adjoin from to) ≡ true
+    → List·Memᴰ to (destinations rings b from)
+unfolding destinations
+of-destination rings b from to h v r = member-keep (λ q. eqb (count 1 b) 3 || adjoin from q) (holding rings b 0) (is-holding rings b 0 to h v) r
 
 -- what makes a move a listed one
 pub record Move (rule : ℕ → List ℕ → List ℕ) (rings : ℕ) (b : List ℕ) (from to removed : ℕ) : Type 0 where
@@ -63,23 +64,23 @@ module _ (rule : ℕ → List ℕ → List ℕ) (rings : ℕ) (b : List ℕ) whe
   unfolding moves
   move-of n m =
       let x = each-member _ (holding rings b 1) m in
-      let y = each-member _ (targets rings b (x .0)) (x .2) in
+      let y = each-member _ (destinations rings b (x .0)) (x .2) in
       let z = map-member _ (removals rule rings (slide b (x .0) (y .0)) (y .0)) (y .2) in
       let f = holding-is rings b 1 (x .0) (x .1) in
-      let g = target-vacant rings b (x .0) (y .0) (y .1) in
+      let g = destination-vacant rings b (x .0) (y .0) (y .1) in
       record {
         from = x .0;
         to = y .0;
         removed = z .0;
         number = z .2;
-        move = record { from-low = f .0; to-low = g .0; own = f .1; vacant = g .1; reach = target-of rings b (x .0) (y .0) (y .1); removal = z .1 };
+        move = record { from-low = f .0; to-low = g .0; own = f .1; vacant = g .1; reach = destination-of rings b (x .0) (y .0) (y .1); removal = z .1 };
       }
 
   pub of-move : (from to removed : ℕ) → Move rule rings b from to removed → List·Memᴰ (moveNumber from to removed) (moves rule rings b)
   unfolding moves
   of-move from to removed v =
       member-each _ (holding rings b 1) from (is-holding rings b 1 from (v .from-low) (v .own))
-      (member-each _ (targets rings b from) to (of-target rings b from to (v .to-low) (v .vacant) (v .reach))
+      (member-each _ (destinations rings b from) to (of-destination rings b from to (v .to-low) (v .vacant) (v .reach))
       (member-map (λ r. moveNumber from to r) (removals rule rings (slide b from to) to) (v .removal)))
 
   -- what a slide may remove, by whether it closes a mill
@@ -102,7 +103,7 @@ module _ (rule : ℕ → List ℕ → List ℕ) (rings : ℕ) (b : List ℕ) whe
       go false e = inl (List·Memᴰ·eq-of-singleton (subst (λ (l : List ℕ). List·Memᴰ r l) (removals-without to e) m))
 
   -- the list, stone by stone
-  pub moves-are : moves rule rings b ≡ each (λ from. stoneMoves rule rings b from (targets rings b from)) (holding rings b 1)
+  pub moves-are : moves rule rings b ≡ each (λ from. stoneMoves rule rings b from (destinations rings b from)) (holding rings b 1)
   unfolding moves
   moves-are = refl
 

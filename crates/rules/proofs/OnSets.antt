@@ -23,8 +23,8 @@ use Rattle.board.specs.Board.{Values, count, digit, setOf}
 use Rattle.board.proofs.Geometry.{points-are, low-point, neighbours-are}
 use Rattle.board.proofs.Sides.{set-lt, bit-set, set-none, set-cons}
 use Rattle.board.proofs.Stores.{has-set, elements-set, set-with, set-without}
-use Rattle.rules.specs.Ply.{holds, holding, inMill, targets, slide, unshielded, removable, noRemoval, removals, exchange}
-use Rattle.rules.proofs.Listed.{target-vacant, removals-without, removals-with, removable-are}
+use Rattle.rules.specs.Ply.{holds, holding, inMill, destinations, slide, unshielded, removable, noRemoval, removals, exchange}
+use Rattle.rules.proofs.Listed.{destination-vacant, removals-without, removals-with, removable-are}
 use Rattle.rules.proofs.Leads.{slide-length}
 use Rattle.rules.proofs.Mills.{in-mill-same}
 
@@ -84,45 +84,45 @@ module _ (b : List ℕ) (from to : ℕ) (hf : from < length b) (ht : to < length
 
 -- where a stone may go: with three stones to every vacant point, else to those among its neighbours
 module _ (rings : ℕ) (small : rings ≤ 3) (b : List ℕ) (whole : length b ≡ 8 * rings) (from : ℕ) where
-  pub targets-jump : count 1 b ≡ 3 → setFrom (targets rings b from) ≡ setOf 0 b
-  unfolding targets
-  targets-jump e =
+  pub destinations-jump : count 1 b ≡ 3 → setFrom (destinations rings b from) ≡ setOf 0 b
+  unfolding destinations
+  destinations-jump e =
       ap setFrom (all-kept (holding rings b 0)) ∙ from-holding rings small b whole 0
     where
       all-kept : (l : List ℕ) → keep (λ to. eqb (count 1 b) 3 || adjoin from to) l ≡ l
       all-kept [] = refl
       all-kept (x ∷ l) = rw (eq-eqb (count 1 b) 3 e, keep) (ap (λ (k : List ℕ). x ∷ k) (all-kept l))
 
-  pub targets-slide : (count 1 b ≡ 3 → ⊥) → setFrom (targets rings b from) ≡ bitAnd (setOf 0 b) (setFrom (neighbours rings from))
-  unfolding targets
-  targets-slide n =
-      same-set (8 * rings) (setFrom (targets rings b from)) (bitAnd (setOf 0 b) (setFrom (neighbours rings from)))
-      (from-lt (8 * rings) (targets rings b from) (λ p m. target-vacant rings b from p m .0))
+  pub destinations-slide : (count 1 b ≡ 3 → ⊥) → setFrom (destinations rings b from) ≡ bitAnd (setOf 0 b) (setFrom (neighbours rings from))
+  unfolding destinations
+  destinations-slide n =
+      same-set (8 * rings) (setFrom (destinations rings b from)) (bitAnd (setOf 0 b) (setFrom (neighbours rings from)))
+      (from-lt (8 * rings) (destinations rings b from) (λ p m. destination-vacant rings b from p m .0))
       (omega (arith, and-le-l (setOf 0 b) (setFrom (neighbours rings from)), set-within rings small b whole 0))
-      (λ p h. go p h (bit-cases (setFrom (targets rings b from)) p) (bit-cases (setOf 0 b) p) (bit-cases (setFrom (neighbours rings from)) p)
+      (λ p h. go p h (bit-cases (setFrom (destinations rings b from)) p) (bit-cases (setOf 0 b) p) (bit-cases (setFrom (neighbours rings from)) p)
       ∙ sym (bit-and (setOf 0 b) (setFrom (neighbours rings from)) p))
     where
-      kept : (p : ℕ) → p < 8 * rings → bit (setOf 0 b) p ≡ 1 → bit (setFrom (neighbours rings from)) p ≡ 1 → bit (setFrom (targets rings b from)) p ≡ 1
+      kept : (p : ℕ) → p < 8 * rings → bit (setOf 0 b) p ≡ 1 → bit (setFrom (neighbours rings from)) p ≡ 1 → bit (setFrom (destinations rings b from)) p ≡ 1
       kept p h v a =
           let m = subst (λ (l : List ℕ). List·Memᴰ p l) (neighbours-are rings from) (from-bit (neighbours rings from) p a) in
-          bit-from (targets rings b from) p (member-keep (λ to. eqb (count 1 b) 3 || adjoin from to) (holding rings b 0)
+          bit-from (destinations rings b from) p (member-keep (λ to. eqb (count 1 b) 3 || adjoin from to) (holding rings b 0)
           (subst (λ (l : List ℕ). List·Memᴰ p l) (sym (holding-set rings small b whole 0)) (is-element 32 (setOf 0 b) p (omega arith) v))
           (rw (ne-eqb (count 1 b) 3 n) (keep-member (λ q. adjoin from q) (points rings) m .1)))
 
-      vacant : (p : ℕ) → bit (setFrom (targets rings b from)) p ≡ 1 → bit (setOf 0 b) p ≡ 1
+      vacant : (p : ℕ) → bit (setFrom (destinations rings b from)) p ≡ 1 → bit (setOf 0 b) p ≡ 1
       vacant p t =
-          let m = keep-member (λ to. eqb (count 1 b) 3 || adjoin from to) (holding rings b 0) (from-bit (targets rings b from) p t) in
+          let m = keep-member (λ to. eqb (count 1 b) 3 || adjoin from to) (holding rings b 0) (from-bit (destinations rings b from) p t) in
           elements-is 32 (setOf 0 b) p (subst (λ (l : List ℕ). List·Memᴰ p l) (holding-set rings small b whole 0) (m .0)) .1
 
-      near : (p : ℕ) → p < 8 * rings → bit (setFrom (targets rings b from)) p ≡ 1 → bit (setFrom (neighbours rings from)) p ≡ 1
+      near : (p : ℕ) → p < 8 * rings → bit (setFrom (destinations rings b from)) p ≡ 1 → bit (setFrom (neighbours rings from)) p ≡ 1
       near p h t =
-          let m = keep-member (λ to. eqb (count 1 b) 3 || adjoin from to) (holding rings b 0) (from-bit (targets rings b from) p t) in
+          let m = keep-member (λ to. eqb (count 1 b) 3 || adjoin from to) (holding rings b 0) (from-bit (destinations rings b from) p t) in
           bit-from (neighbours rings from) p (subst (λ (l : List ℕ). List·Memᴰ p l) (sym (neighbours-are rings from))
           (member-keep (λ q. adjoin from q) (points rings) (low-point rings p h) (rw (ne-eqb (count 1 b) 3 n) at (m .1))))
 
-      go : (p : ℕ) → p < 8 * rings → (bit (setFrom (targets rings b from)) p ≡ 0) ⊎ (bit (setFrom (targets rings b from)) p ≡ 1)
+      go : (p : ℕ) → p < 8 * rings → (bit (setFrom (destinations rings b from)) p ≡ 0) ⊎ (bit (setFrom (destinations rings b from)) p ≡ 1)
           → (bit (setOf 0 b) p ≡ 0) ⊎ (bit (setOf 0 b) p ≡ 1) → (bit (setFrom (neighbours rings from)) p ≡ 0) ⊎ (bit (setFrom (neighbours rings from)) p ≡ 1)
-          → bit (setFrom (targets rings b from)) p ≡ min (bit (setOf 0 b) p) (bit (setFrom (neighbours rings from)) p)
+          → bit (setFrom (destinations rings b from)) p ≡ min (bit (setOf 0 b) p) (bit (setFrom (neighbours rings from)) p)
       go p h (inl t) (inl v) x = rw (t, v) (omega arith)
       go p h (inl t) (inr v) (inl a) = rw (t, v, a)
       go p h (inl t) (inr v) (inr a) = absurd (omega (arith, t, kept p h v a))

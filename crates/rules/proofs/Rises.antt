@@ -11,8 +11,8 @@ use Rattle.lists.proofs.Members.{each-member, map-member}
 use Rattle.lists.proofs.Rises.{rising-range, rising-keep, rising-else, rising-add, rising-each}
 use Rattle.board.specs.Geometry.{points}
 use Rattle.board.proofs.Geometry.{points-are}
-use Rattle.rules.specs.Ply.{holds, holding, inMill, targets, slide, unshielded, removable, noRemoval, removals, slideMoves, stoneMoves, moves}
-use Rattle.rules.proofs.Listed.{target-vacant, removal-cases, TakesOpponent}
+use Rattle.rules.specs.Ply.{holds, holding, inMill, destinations, slide, unshielded, removable, noRemoval, removals, slideMoves, stoneMoves, moves}
+use Rattle.rules.proofs.Listed.{destination-vacant, removal-cases, TakesOpponent}
 
 abbrev pub RisingRule : (ℕ → List ℕ → List ℕ) → Type 0
 RisingRule rule = (rings : ℕ) (b : List ℕ) → Rising (rule rings b)
@@ -22,9 +22,9 @@ unfolding holding
 holding-rising rings b v =
     rising-keep (holds b v) (points rings) (subst Rising (sym (points-are rings)) (rising-range (8 * rings) 0))
 
-pub targets-rising : (rings : ℕ) (b : List ℕ) (from : ℕ) → Rising (targets rings b from)
-unfolding targets
-targets-rising rings b from = rising-keep _ (holding rings b 0) (holding-rising rings b 0)
+pub destinations-rising : (rings : ℕ) (b : List ℕ) (from : ℕ) → Rising (destinations rings b from)
+unfolding destinations
+destinations-rising rings b from = rising-keep _ (holding rings b 0) (holding-rising rings b 0)
 
 unshielded-rising : RisingRule (λ rings b. unshielded rings b)
 unfolding unshielded
@@ -57,18 +57,18 @@ module _ (rule : ℕ → List ℕ → List ℕ) (takes : TakesOpponent rule) (ri
         let l = removal-low (slide b from to) to (x .0) (x .1) in
         (omega (arith, x .2), omega (arith, x .2))
 
-    gone-within : (from n : ℕ) → List·Memᴰ n (stoneMoves rule rings b from (targets rings b from)) → (1024 * from ≤ n) × (n < 1024 * from + 1024)
+    gone-within : (from n : ℕ) → List·Memᴰ n (stoneMoves rule rings b from (destinations rings b from)) → (1024 * from ≤ n) × (n < 1024 * from + 1024)
     gone-within from n m =
-        let x = each-member (λ to. slideMoves rule rings b from to) (targets rings b from) m in
+        let x = each-member (λ to. slideMoves rule rings b from to) (destinations rings b from) m in
         let w = slid-within from (x .0) n (x .2) in
-        let l = target-vacant rings b from (x .0) (x .1) .0 in
+        let l = destination-vacant rings b from (x .0) (x .1) .0 in
         (omega (arith, w .0), omega (arith, w .1))
 
     pub moves-rising : Rising (moves rule rings b)
     unfolding moves
     moves-rising =
-        rising-each (λ from. stoneMoves rule rings b from (targets rings b from)) (holding rings b 1) (holding-rising rings b 1)
-        (λ from m. rising-each (λ to. slideMoves rule rings b from to) (targets rings b from) (targets-rising rings b from)
+        rising-each (λ from. stoneMoves rule rings b from (destinations rings b from)) (holding rings b 1) (holding-rising rings b 1)
+        (λ from m. rising-each (λ to. slideMoves rule rings b from to) (destinations rings b from) (destinations-rising rings b from)
         (λ to k. rising-add (1024 * from + 32 * to) (removals rule rings (slide b from to) to) (removals-rising (slide b from to) to))
         (λ x y i j h p q mp mq. omega (arith, h, slid-within from x p mp .1, slid-within from y q mq .0)))
         (λ x y i j h p q mp mq. omega (arith, h, gone-within x p mp .1, gone-within y q mq .0))

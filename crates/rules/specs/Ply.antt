@@ -22,8 +22,8 @@ unfoldable pub inMill : ℕ → (ℕ → Bool) → ℕ → Bool
 inMill rings own p = any (λ mill. member p mill && all own mill) (mills rings)
 
 -- "The mover slides a stone to a vacant neighbour; with exactly three stones, to any vacant point."
-unfoldable pub targets : ℕ → List ℕ → ℕ → List ℕ
-targets rings b from = keep (λ to. eqb (count 1 b) 3 || adjoin from to) (holding rings b 0)
+unfoldable pub destinations : ℕ → List ℕ → ℕ → List ℕ
+destinations rings b from = keep (λ to. eqb (count 1 b) 3 || adjoin from to) (holding rings b 0)
 
 -- the board after the slide, the sides not yet exchanged: the vacated point no longer counts towards a mill
 unfoldable pub slide : List ℕ → ℕ → ℕ → List ℕ
@@ -68,12 +68,9 @@ stoneMoves rule rings b from tos = each (λ to. slideMoves rule rings b from to)
 
 -- the plies of a board as move numbers: "Moves are listed by rising number"
 unfoldable pub moves : (ℕ → List ℕ → List ℕ) → ℕ → List ℕ → List ℕ
-moves rule rings b = each (λ from. stoneMoves rule rings b from (targets rings b from)) (holding rings b 1)
+moves rule rings b = each (λ from. stoneMoves rule rings b from (destinations rings b from)) (holding rings b 1)
 
--- both by document 01's rule of removal
-abbrev pub listedFrom : ℕ → List ℕ → ℕ → List ℕ → List ℕ
-listedFrom rings b from tos = stoneMoves (λ n c. removable n c) rings b from tos
-
+-- by document 01's rule of removal
 abbrev pub listedMoves : ℕ → List ℕ → List ℕ
 listedMoves rings b = moves (λ n c. removable n c) rings b
 

@@ -12,14 +12,14 @@ mod plies;
 mod points;
 
 ghost use Prim.Native.Nat.{_<_, _≤_};
-ghost use Rattle.second.specs.Kept.{KeptUnless};
+ghost use Rattle.second.specs.Unchanged.{UnchangedUnless};
 
 const DEEPEST: u16 = 65533;
 
 // Fills the tablebase of largest count k: at each place the plies to the end, even lost, odd won, or 65535 for a draw. `counts` is room to
 // work in. Answers whether it did: false, and both buffers unchanged, where rings, k or a length is wrong.
 pub fn solve(rings: u8, k: u8, entries: &mut [u16], counts: &mut [u16]) -> bool
-    ensures { λ r. ⌜ KeptUnless r (now (entries .entry)) (now (entries .exit)) × KeptUnless r (now (counts .entry)) (now (counts .exit)) ⌝ }
+    ensures { λ r. ⌜ UnchangedUnless r (now (entries .entry)) (now (entries .exit)) × UnchangedUnless r (now (counts .entry)) (now (counts .exit)) ⌝ }
 {
     if outside(rings, k) {
         return false;
@@ -40,7 +40,7 @@ pub fn solve_pair(
     entries: &mut [u16],
     counts: &mut [u16],
 ) -> bool
-    ensures { λ r. ⌜ KeptUnless r (now (entries .entry)) (now (entries .exit)) × KeptUnless r (now (counts .entry)) (now (counts .exit)) ⌝ }
+    ensures { λ r. ⌜ UnchangedUnless r (now (entries .entry)) (now (entries .exit)) × UnchangedUnless r (now (counts .entry)) (now (counts .exit)) ⌝ }
 {
     if outside(rings, k) {
         return false;
@@ -67,7 +67,7 @@ fn fill(
     entries: &mut [u16],
     counts: &mut [u16],
 ) -> bool
-    ensures { λ r. ⌜ KeptUnless r (now (entries .entry)) (now (entries .exit)) × KeptUnless r (now (counts .entry)) (now (counts .exit)) ⌝ }
+    ensures { λ r. ⌜ UnchangedUnless r (now (entries .entry)) (now (entries .exit)) × UnchangedUnless r (now (counts .entry)) (now (counts .exit)) ⌝ }
 {
     let length = starts[order::LENGTH];
     if (entries.len() != length) | (counts.len() != length) {

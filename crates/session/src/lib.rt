@@ -3,7 +3,7 @@ ghost use mathlib.Core.Path.{_≡_};
 ghost use Prim.Native.Nat.{_*_, _≤_, _<_};
 ghost use lib.ListN.{length};
 ghost use Rattle.morris.specs.Fills.{solved, FillCall};
-ghost use Rattle.text.specs.Text.{mostBytes};
+ghost use Rattle.text.specs.Inner.Room.{mostBytes};
 ghost use Rattle.lines.specs.Lines.{mostKept};
 ghost use Rattle.lines.specs.Answers.{largestCount};
 use libc::STDIN_FILENO;
@@ -11,7 +11,7 @@ use libc::STDOUT_FILENO;
 use morris::Solved;
 
 // The limit of the fill, in plies.
-const LIMIT: u32 = 2000;
+const DESK_LIMIT: u32 = 2000;
 
 // After a block: how many bytes are kept of a line that is not yet ended, and whether to go on.
 struct After {
@@ -94,7 +94,7 @@ fn write_header(out: &mut [u8])
 fn fill_tablebase(tablebase: &mut [u16]) -> Solved
     ensures { λ r. ⌜ FillCall 1 largestCount 2000 (now (tablebase .entry)) (now (tablebase .exit)) (solved r) ⌝ }
 {
-    morris::fill(1, lines::LARGEST_COUNT, LIMIT, tablebase)
+    morris::fill(1, lines::LARGEST_COUNT, DESK_LIMIT, tablebase)
 }
 
 // The session in lent buffers. Were the fill turned back, every entry would be void, and a line would show `-` for it.

@@ -13,7 +13,7 @@ use borrow.Author.Tests.{eqb-true, eqb-false, ltb-true, ltb-false}
 use Rattle.lists.specs.Lists.{Rising}
 use Rattle.lists.proofs.Rises.{above-member}
 use Rattle.sets.specs.Sets.{bit, without, elements, lowest}
-use Rattle.sets.specs.Taken.{Taken}
+use Rattle.sets.specs.Inner.Taken.{Taken}
 use Rattle.sets.proofs.Laws.{bit-zero, bit-suc, bit-le, bit-cases, bit-without-same, bit-without-other, without-member}
 use Rattle.sets.proofs.Elements.{bit-low, is-element, elements-rising, elements-lowest, lowest-member, lowest-low, without-less}
 

@@ -10,7 +10,7 @@ use lib.Seq.{sets}
 use Rattle.lists.specs.Lists.{any, each}
 use Rattle.lists.proofs.Writing.{Writing, writing-none, writing-part, writing-all}
 use Rattle.sets.specs.Sets.{bit, elements}
-use Rattle.sets.specs.Taken.{Taken}
+use Rattle.sets.specs.Inner.Taken.{Taken}
 use Rattle.sets.proofs.Elements.{elements-none}
 
 -- what each member gives, one list after the other

@@ -1,2 +1,2 @@
 pub mod Sets
-pub mod Taken
+pub mod Inner

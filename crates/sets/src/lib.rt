@@ -4,7 +4,7 @@ ghost use mathlib.Core.List.{_∷_, []};
 ghost use Prim.Native.Nat.{_<_};
 ghost use lib.Dec.{eqb};
 ghost use Rattle.sets.specs.Sets.{has, with, without, members, shared, lowest, setFrom};
-ghost use Rattle.sets.specs.Taken.{Taken};
+ghost use Rattle.sets.specs.Inner.Taken.{Taken};
 
 // Whether a point is a member.
 pub fn has(s: u32, p: usize) -> bool

@@ -6,7 +6,7 @@ use native.Mathlib.Nat.{zero-mul, mul-zero, sub-zero, suc-sub-suc, mul-pos, mul-
 use native.Mathlib.Omega.{arith}
 use lib.Dec.{leb, ltb}
 use borrow.Author.Tests.{leb-true, leb-false, lt-leb, ltb-true, ltb-false}
-use Rattle.sizes.specs.Binomial.{binomial}
+use Rattle.sizes.specs.Inner.Binomial.{binomial}
 use Rattle.sizes.specs.Size.{factorial, size, sizeWithOne}
 use Rattle.sizes.proofs.Binomials.{pascal, binomial-zero, binomial-over, binomial-small, binomial-factorial}
 

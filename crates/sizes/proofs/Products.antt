@@ -7,7 +7,7 @@ use native.Mathlib.Nat.{add-zero, zero-add, add-comm, mul-comm, zero-mul}
 use native.Mathlib.Omega.{arith}
 use lib.Dec.{leb, ltb}
 use borrow.Author.Tests.{ltb-true, ltb-false}
-use Rattle.sizes.specs.Binomial.{binomial}
+use Rattle.sizes.specs.Inner.Binomial.{binomial}
 use Rattle.sizes.specs.Size.{factorial, size, sizeWithOne}
 use Rattle.sizes.proofs.Binomials.{pascal, binomial-zero, binomial-over}
 use Rattle.sizes.proofs.Multinomials.{size-ways, size-over, size-none, size-more}

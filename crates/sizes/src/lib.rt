@@ -3,7 +3,7 @@ ghost use mathlib.Core.Path.{_≡_};
 ghost use Prim.Native.Nat.{ℕ, _/_, _%_, _≤_, _<_};
 ghost use lib.ListN.{getD};
 ghost use Rattle.sizes.specs.Size.{size};
-ghost use Rattle.sizes.specs.Binomial.{binomial, BinomialTable};
+ghost use Rattle.sizes.specs.Inner.Binomial.{binomial, BinomialTable};
 
 // Entry i of the rows of 25, by Pascal's rule from the entries before it. In column 0 the entry before the one above is the last of its row, 0 in
 // every row but the last, so that the rule needs no case.

@@ -26,11 +26,11 @@ use Rattle.outcomes.proofs.PairGame.{OnPair, InPair, on-pair, pair-table}
 use Rattle.outcomes.proofs.Entries.{entry-unrank, kept-then}
 use Rattle.outcomes.proofs.PairLevels.{pair-live, live-pair, pair-ground, pair-entry}
 use Rattle.sweeping.specs.declared.tables.Table.{Table}
-use Rattle.sweeping.specs.Levels.{openDecided}
-use Rattle.solver.specs.Pairs.{PairFound, pairFilled}
-use Rattle.solver.specs.Solve.{Setting}
+use Rattle.sweeping.specs.Inner.Levels.{openDecided}
+use Rattle.solver.specs.Inner.Pairs.{PairFound, pairFilled}
+use Rattle.solver.specs.Inner.Solve.{Setting}
 use Rattle.levels.proofs.Sides.{Side, decided-is}
-use Rattle.solver.proofs.Parts.{first-side, second-side, pair-kept, pair-filled}
+use Rattle.solver.proofs.PairTables.{first-side, second-side, pair-kept, pair-filled}
 use Rattle.solver.proofs.States.{State, Rank, in-first, in-second, rank-of}
 use Rattle.solver.proofs.NextLevel.{setting-now}
 

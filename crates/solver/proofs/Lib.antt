@@ -1,4 +1,4 @@
-pub mod Parts
+pub mod PairTables
 pub mod States
 pub mod NextLevel
 pub mod PairSteps

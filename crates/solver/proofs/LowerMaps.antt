@@ -6,9 +6,10 @@ use mathlib.Core.Logic.{inl, inr}
 use Prim.Native.Nat.{ℕ, _-_, _≤_}
 use native.Mathlib.Omega.{arith}
 use Rattle.symmetry.specs.Symmetries.{symmetries}
-use Rattle.invariance.specs.Used.{Used, TableSymmetric, LowerSymmetric}
+use Rattle.invariance.specs.Symmetric.{TableSymmetric, LowerSymmetric}
+use Rattle.invariance.specs.Inner.Used.{Used}
 use Rattle.invariance.proofs.Groups.{group-of}
-use Rattle.comparing.specs.Compared.{Decides}
+use Rattle.comparing.specs.Inner.Compared.{Decides}
 
 module _ (rings k m o : ℕ) (tablebase : List ℕ) where
   -- both lower tables are symmetric under all maps, and so under fewer

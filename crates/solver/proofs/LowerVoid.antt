@@ -11,7 +11,7 @@ use Rattle.outcomes.specs.Places.{isVoid, tableVoid}
 use Rattle.outcomes.proofs.Voids.{part-void}
 use Rattle.parts.specs.Parts.{partOf}
 use Rattle.sweeping.specs.declared.tables.Table.{Table}
-use Rattle.sweeping.specs.Tables.{Located}
+use Rattle.sweeping.specs.Inner.Tables.{Located}
 use Rattle.sweeping.proofs.Probed.{lower-starts, lower-ends, lower-none}
 
 pub lower-part-void : (rings k m o : ℕ) (t : Table) → Located (8 * rings) k m o t → 3 ≤ o → (tablebase : List ℕ)

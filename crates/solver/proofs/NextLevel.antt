@@ -13,7 +13,7 @@ use Rattle.layout.specs.Layout.{tablebaseLength}
 use Rattle.layout.proofs.OneToOne.{InRange, end-is, end-within}
 use Rattle.game.specs.Game.{drawEntry, voidEntry}
 use Rattle.game.proofs.Levels.{skip, stop}
-use Rattle.outcomes.specs.Places.{place, entryAt, successorEntry}
+use Rattle.outcomes.specs.Places.{placeOf, entryAt, successorEntry}
 use Rattle.outcomes.specs.Whole.{next}
 use Rattle.outcomes.specs.Pair.{Pair, pairSeed, LowerValid}
 use Rattle.outcomes.specs.Filled.{BothTables, Kept}
@@ -21,14 +21,15 @@ use Rattle.outcomes.proofs.Ranked.{InTable, place-at, rank-in}
 use Rattle.outcomes.proofs.PairGame.{Counts, own, lower, lower-turned, OnPair, InPair}
 use Rattle.outcomes.proofs.Entries.{entry-place, entry-two, entry-three}
 use Rattle.outcomes.proofs.PairLevels.{pair-ground}
-use Rattle.parts.specs.Parts.{partOf, leastFrom}
+use Rattle.parts.specs.Parts.{partOf}
+use Rattle.parts.specs.Inner.Finding.{leastFrom}
 use Rattle.parts.proofs.LeastDepth.{least-cases, part-below}
 use Rattle.sweeping.specs.declared.tables.Table.{Table}
-use Rattle.sweeping.specs.Tables.{Located}
-use Rattle.solver.specs.Pairs.{InRoom, pairLeast}
-use Rattle.solver.specs.Solve.{Setting}
+use Rattle.sweeping.specs.Inner.Tables.{Located}
+use Rattle.solver.specs.Inner.Pairs.{InRoom, pairLeast}
+use Rattle.solver.specs.Inner.Solve.{Setting}
 use Rattle.sweeping.proofs.Probed.{lower-starts, lower-ends, lower-none}
-use Rattle.solver.proofs.Parts.{in-range, turned-pair, part-end, part-room, part-place}
+use Rattle.solver.proofs.PairTables.{in-range, turned-pair, part-end, part-room, part-place}
 use Rattle.solver.proofs.States.{ExactBelow, State}
 
 -- the lower part of a table lies within the tablebase
@@ -57,7 +58,7 @@ lower-room rings k x y t l p n e = go (eqb y 3) refl
 
 -- a board of the lower table stands in that part
 lower-place : (rings k x y : ℕ) (t : Table) → Located (8 * rings) k x y t → (b : List ℕ) → 3 ≤ count 1 b → suc (count 1 b) ≡ y → InTable rings (count 1 b) x b
-    → (t .lower .start ≤ place rings k b) × (place rings k b < t .lower .end)
+    → (t .lower .start ≤ placeOf rings k b) × (placeOf rings k b < t .lower .end)
 lower-place rings k x y t l b three e w =
     let h : 4 ≤ y = omega arith in
     let c : count 1 b ≡ y - 1 = omega arith in
@@ -102,10 +103,10 @@ module _ (rings k m o : ℕ) (a b : Table) (now : List ℕ) (s : Setting (length
       → (pairLeast a b level now ≤ entryAt rings k now c) ⊎ (voidEntry ≤ entryAt rings k now c)
   least-entry c i three h = go (i .counts)
     where
-      g : level ≤ getD now (place rings k c) 0
+      g : level ≤ getD now (placeOf rings k c) 0
       g = omega (arith, entry-place rings k now c)
 
-      found : (e : ℕ) → pairLeast a b level now ≤ e → (e ≤ getD now (place rings k c) 0) ⊎ (voidEntry ≤ getD now (place rings k c) 0)
+      found : (e : ℕ) → pairLeast a b level now ≤ e → (e ≤ getD now (placeOf rings k c) 0) ⊎ (voidEntry ≤ getD now (placeOf rings k c) 0)
           → (pairLeast a b level now ≤ entryAt rings k now c) ⊎ (voidEntry ≤ entryAt rings k now c)
       found e l (inl q) = inl (omega (arith, entry-place rings k now c))
       found e l (inr q) = inr (omega (arith, entry-place rings k now c))
@@ -117,19 +118,21 @@ module _ (rings k m o : ℕ) (a b : Table) (now : List ℕ) (s : Setting (length
       go (own (inl q)) =
           let p = part-place rings k m o a (s .first) c (whose m o (q .0) (q .1)) in
           found ones (omega (arith, least-is)) (part-below level (a .own .start) (a .own .end) now
-          (part-room rings k m o a (s .first) (in-range {rings = rings} (s .pair) (inl (refl, refl))) (length now) (s .room)) (place rings k c) (p .0) (p .1) g)
+          (part-room rings k m o a (s .first) (in-range {rings = rings} (s .pair) (inl (refl, refl))) (length now) (s .room)) (placeOf rings k c)
+          (p .0) (p .1) g)
       go (own (inr q)) =
           let p = part-place rings k o m b (s .second) c (whose o m (q .0) (q .1)) in
           found twos (omega (arith, least-is)) (part-below level (b .own .start) (b .own .end) now
-          (part-room rings k o m b (s .second) (in-range {rings = rings} (s .pair) (inr (refl, refl))) (length now) (s .room)) (place rings k c) (p .0) (p .1) g)
+          (part-room rings k o m b (s .second) (in-range {rings = rings} (s .pair) (inr (refl, refl))) (length now) (s .room)) (placeOf rings k c)
+          (p .0) (p .1) g)
       go (lower e f) =
           let p = lower-place rings k m o a (s .first) c three e (whose (count 1 c) m refl f) in
           found threes (omega (arith, least-is)) (part-below level (a .lower .start) (a .lower .end) now
-          (lower-room rings k m o a (s .first) (s .pair) (length now) (s .room) .1) (place rings k c) (p .0) (p .1) g)
+          (lower-room rings k m o a (s .first) (s .pair) (length now) (s .room) .1) (placeOf rings k c) (p .0) (p .1) g)
       go (lower-turned e f) =
           let p = lower-place rings k o m b (s .second) c three e (whose (count 1 c) o refl f) in
           found fours (omega (arith, least-is)) (part-below level (b .lower .start) (b .lower .end) now
-          (lower-room rings k o m b (s .second) (turned-pair (s .pair)) (length now) (s .room) .1) (place rings k c) (p .0) (p .1) g)
+          (lower-room rings k o m b (s .second) (turned-pair (s .pair)) (length now) (s .room) .1) (placeOf rings k c) (p .0) (p .1) g)
 
 -- all four parts lie within the tablebase
 pub in-room : {n rings k m o : ℕ} {a b : Table} → Setting n rings k m o a b → InRoom n a b

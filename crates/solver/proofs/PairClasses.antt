@@ -16,20 +16,20 @@ use Rattle.outcomes.proofs.PairGame.{OnPair}
 use Rattle.outcomes.proofs.PairLevels.{pair-ground}
 use Rattle.symmetry.specs.Symmetries.{image}
 use Rattle.game.proofs.Mapped.{exact-symmetric}
-use Rattle.invariance.specs.Used.{LowerSymmetric}
+use Rattle.invariance.specs.Symmetric.{LowerSymmetric}
 use Rattle.imaging.proofs.Picked.{Picks}
 use Rattle.invariance.proofs.Groups.{Group}
 use Rattle.sweeping.specs.declared.tables.Table.{Table}
-use Rattle.sweeping.specs.Levels.{Fits}
+use Rattle.sweeping.specs.Inner.Levels.{Fits}
 use Rattle.levels.proofs.Sides.{Side}
-use Rattle.sweeping.specs.Marked.{levelByClasses}
+use Rattle.sweeping.specs.Inner.Marked.{levelByClasses}
 use Rattle.levels.proofs.Judging.{mapped, SymmetricTable}
 use Rattle.levels.proofs.ClassLevels.{level-kept, level-symmetric, level-table}
-use Rattle.solver.specs.Solve.{Setting}
-use Rattle.solver.proofs.Parts.{first-side, second-side, first-fits, second-fits}
+use Rattle.solver.specs.Inner.Solve.{Setting}
+use Rattle.solver.proofs.PairTables.{first-side, second-side, first-fits, second-fits}
 use Rattle.solver.proofs.States.{ExactBelow, State, AtLevel, None, Once, Twice, level-begun, both-ended}
 use Rattle.solver.proofs.NextLevel.{setting-now}
-use Rattle.solver.specs.Pairs.{pairByClasses}
+use Rattle.solver.specs.Inner.Pairs.{pairByClasses}
 
 module _ (rings k m o : ℕ) (a b : Table) (before : List ℕ) (s : Setting (length before) rings k m o a b) (valid : LowerValid rings k m o before)
     (maps : ℕ) (group : Group maps) (mirrored : LowerSymmetric maps rings k m o before) (picked : List ℕ → Bool) (picks : Picks rings maps picked)

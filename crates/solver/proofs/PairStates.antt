@@ -14,7 +14,7 @@ use Rattle.game.specs.Game.{live, drawEntry, voidEntry, Depth}
 use Rattle.game.proofs.Depths.{NotBefore, before-or-not}
 use Rattle.game.proofs.Levels.{exact-upto}
 use Rattle.board.specs.Board.{count}
-use Rattle.outcomes.specs.Places.{place, entryAt, successorEntry}
+use Rattle.outcomes.specs.Places.{placeOf, entryAt, successorEntry}
 use Rattle.outcomes.specs.Whole.{next}
 use Rattle.outcomes.specs.Pair.{pairSeed, LowerValid}
 use Rattle.outcomes.specs.Filled.{BothTables}
@@ -23,12 +23,12 @@ use Rattle.outcomes.proofs.PairGame.{OnPair, InPair, on-pair, pair-table}
 use Rattle.outcomes.proofs.Entries.{entry-place, entry-unrank}
 use Rattle.outcomes.proofs.PairLevels.{pair-live, pair-ground, pair-entry}
 use Rattle.sweeping.specs.declared.tables.Table.{Table}
-use Rattle.sweeping.specs.Tables.{Located}
-use Rattle.sweeping.specs.Levels.{blockedFirst}
-use Rattle.solver.specs.Pairs.{Holds, Beyond, pairBlocked}
-use Rattle.solver.specs.Solve.{Setting}
+use Rattle.sweeping.specs.Inner.Tables.{Located}
+use Rattle.sweeping.specs.Inner.Levels.{blockedFirst}
+use Rattle.solver.specs.Inner.Pairs.{Holds, WroteBeyond, pairBlocked}
+use Rattle.solver.specs.Inner.Solve.{Setting}
 use Rattle.solver.proofs.Answered.{Deep}
-use Rattle.solver.proofs.Parts.{first-side, second-side, part-end, part-place}
+use Rattle.solver.proofs.PairTables.{first-side, second-side, part-end, part-place}
 use Rattle.solver.proofs.States.{ExactBelow, State, AtLevel, None, Once, Twice, level-begun, blocked-step, both-ended, exact-most}
 
 module _ (rings k m o : ℕ) (a b : Table) (before : List ℕ) (s : Setting (length before) rings k m o a b) (valid : LowerValid rings k m o before)
@@ -85,7 +85,7 @@ module _ (rings k m o : ℕ) (a b : Table) (before : List ℕ) (s : Setting (len
           (λ x. successorEntry rings k after x) exact .sound c (on-pair i) (omega arith))
 
       -- one that is written beyond the limit is too deep
-      pub beyond-limit : Beyond a b limit level after true → Deep rings k limit (BothTables m o) (λ x. pairSeed rings k m o before x)
+      pub beyond-limit : WroteBeyond a b limit level after true → Deep rings k limit (BothTables m o) (λ x. pairSeed rings k m o before x)
       beyond-limit (far, held) = go held
         where
           at : (x y : ℕ) → BothTables m o x y
@@ -100,7 +100,7 @@ module _ (rings k m o : ℕ) (a b : Table) (before : List ℕ) (s : Setting (len
           go (inr q) = at o m (inr (refl, refl)) (held-board o m b (s .second) after q)
 
       -- where it wrote nothing beyond, the entries are within the limit
-      pub within-limit : Beyond a b limit level after false → (c : List ℕ) → InPair rings m o c
+      pub within-limit : WroteBeyond a b limit level after false → (c : List ℕ) → InPair rings m o c
           → (entryAt rings k after c ≤ limit) ⊎ (entryAt rings k after c ≡ drawEntry)
       within-limit (inl h) c i = exact-most rings k m o a b before s valid (suc level) limit after (omega arith) low exact c i
       within-limit (inr none) c i = go (before-or-not (next rings) (λ x. pairSeed rings k m o before x) (suc level) c)
@@ -115,7 +115,7 @@ module _ (rings k m o : ℕ) (a b : Table) (before : List ℕ) (s : Setting (len
               → Holds after (t .own) level
           held x y t l e f v =
               let p = part-place rings k x y t l c record { values = i .values; points = i .points; mover = e; opponent = f } in
-              (place rings k c, p .0, p .1, sym (entry-place rings k after c) ∙ v)
+              (placeOf rings k c, p .0, p .1, sym (entry-place rings k after c) ∙ v)
 
           not-level : BothTables m o (count 1 c) (count 2 c) → entryAt rings k after c ≡ level → ⊥
           not-level (inl q) v = none .0 (held m o a (s .first) (q .0) (q .1) v)

@@ -11,14 +11,14 @@ use borrow.Author.Tests.{eqb-true, eq-eqb, ne-eqb, ltb-true, ltb-false}
 use Rattle.lists.proofs.Tests.{clash}
 use Rattle.sizes.specs.Size.{size}
 use Rattle.game.specs.Game.{voidEntry}
-use Rattle.parts.specs.Parts.{partOf, leastFrom}
-use Rattle.parts.specs.Finding.{First, isAt}
+use Rattle.parts.specs.Parts.{partOf}
+use Rattle.parts.specs.Inner.Finding.{leastFrom, First, isAt}
 use Rattle.parts.proofs.LeastDepth.{least-cases, part-below}
 use Rattle.parts.specs.declared.Part.{Part}
 use Rattle.sweeping.specs.declared.tables.Table.{Table}
-use Rattle.sweeping.specs.Levels.{blockedFirst, openDecided, Found}
-use Rattle.sweeping.specs.Marked.{levelByClasses}
-use Rattle.solver.specs.Pairs.{PairFound, PartIn, InRoom, Holds, Held, PairHeld, Beyond, pairBlocked, pairByClasses, pairLeast}
+use Rattle.sweeping.specs.Inner.Levels.{blockedFirst, openDecided, Found}
+use Rattle.sweeping.specs.Inner.Marked.{levelByClasses}
+use Rattle.solver.specs.Inner.Pairs.{PairFound, PartIn, InRoom, Holds, Held, PairHeld, WroteBeyond, pairBlocked, pairByClasses, pairLeast}
 
 -- both tables, one after the other
 module _ (rings : ℕ) (a b : Table) (now once : List ℕ) where
@@ -61,7 +61,7 @@ held now p e j w = go (ltb j (p .end)) refl
 
 -- the first part has none: the second decides
 pub second-held : (a b : Table) (limit level : ℕ) (now : List ℕ) → limit < level → Held now (a .own) level false
-    → (c : Bool) → Held now (b .own) level c → Beyond a b limit level now c
+    → (c : Bool) → Held now (b .own) level c → WroteBeyond a b limit level now c
 second-held a b limit level now h f true s = (h, inr s)
 second-held a b limit level now h f false s = inr (f, s)
 

@@ -25,12 +25,12 @@ use Rattle.outcomes.proofs.PairGame.{OnPair, InPair, on-pair}
 use Rattle.outcomes.proofs.Entries.{kept-then}
 use Rattle.outcomes.proofs.PairLevels.{Amid, pair-live, live-pair, pair-ground, pair-seeded, pair-entry}
 use Rattle.sweeping.specs.declared.tables.Table.{Table}
-use Rattle.sweeping.specs.Levels.{blockedFirst}
-use Rattle.solver.specs.Pairs.{pairFilled}
-use Rattle.solver.specs.Solve.{Setting}
+use Rattle.sweeping.specs.Inner.Levels.{blockedFirst}
+use Rattle.solver.specs.Inner.Pairs.{pairFilled}
+use Rattle.solver.specs.Inner.Solve.{Setting}
 use Rattle.levels.proofs.LevelZero.{blocked-kept, blocked-table}
 use Rattle.levels.proofs.Sides.{Side, sizes}
-use Rattle.solver.proofs.Parts.{pair-kept, pair-filled}
+use Rattle.solver.proofs.PairTables.{pair-kept, pair-filled}
 
 module _ (rings k m o : ℕ) (a b : Table) (before : List ℕ) (s : Setting (length before) rings k m o a b) (valid : LowerValid rings k m o before) where
   -- every position of the pair has its depth if that is below the level, and is open otherwise

@@ -5,11 +5,12 @@ ghost use mathlib.Core.Path.{_≡_};
 ghost use Prim.Native.Nat.{_*_, _<_, min};
 ghost use lib.ListN.{length};
 ghost use Rattle.game.specs.Game.{voidEntry};
-ghost use Rattle.probing.specs.Questions.{Lent};
-ghost use Rattle.sweeping.specs.Levels.{Lies, Fits};
-ghost use Rattle.imaging.specs.Images.{leastOfClass};
-ghost use Rattle.solver.specs.Pairs.{PartIn, InRoom, PairSweeping, PairSolving, Held, Beyond, PairHeld, pairBlocked, pairByClasses, pairFilled, pairLeast, PairFound};
-ghost use Rattle.solver.specs.Solve.{PairFill};
+ghost use Rattle.probing.specs.Inner.Questions.{Lent};
+ghost use Rattle.sweeping.specs.Inner.Levels.{Lies, Fits};
+ghost use Rattle.imaging.specs.Inner.Images.{leastOfClass};
+ghost use Rattle.solver.specs.Inner.Pairs.{PartIn, InRoom, PairSweeping, PairSolving, Held, WroteBeyond, PairHeld, pairBlocked, pairByClasses};
+ghost use Rattle.solver.specs.Inner.Pairs.{pairFilled, pairLeast, PairFound};
+ghost use Rattle.solver.specs.Inner.Solve.{PairFill};
 use imaging::Maps;
 use parts::DRAW;
 use parts::Part;
@@ -109,7 +110,7 @@ fn holds(tablebase: &[u16], part: Part, entry: u16) -> bool
 // Whether a level beyond the limit wrote anything in a pair.
 fn beyond(tablebase: &[u16], tables: Tables, limit: u16, level: u16) -> bool
     requires { ⌜ InRoom (length (now tablebase)) (tables .first) (tables .second) ⌝ }
-    ensures { λ b. ⌜ Beyond (tables .first) (tables .second) limit level (now (tablebase .entry)) b ⌝ }
+    ensures { λ b. ⌜ WroteBeyond (tables .first) (tables .second) limit level (now (tablebase .entry)) b ⌝ }
 {
     if level <= limit {
         return false;
@@ -146,7 +147,7 @@ fn pair_decided(
 }
 
 // Both tables filled with one value.
-fn fill_pair(tablebase: &mut [u16], tables: Tables, v: u16)
+fn fill_tables(tablebase: &mut [u16], tables: Tables, v: u16)
     requires { ⌜ InRoom (length (now tablebase)) (tables .first) (tables .second) ⌝ }
     ensures { λ _. ⌜ now (tablebase .exit) ≡ pairFilled (tables .first) (tables .second) v (now (tablebase .entry)) ⌝ }
 {
@@ -217,7 +218,7 @@ pub fn solve_tables(
     ensures { λ deep. ⌜ PairFill (bounds .rings) (bounds .k) (tables .first .mover) (tables .first .opponent) (bounds .limit) (now (tablebase .entry))
         (now (tablebase .exit)) deep ⌝ }
 {
-    fill_pair(tablebase, tables, DRAW);
+    fill_tables(tablebase, tables, DRAW);
     sweep_pair(tablebase, binomials, masks, bounds.rings, tables);
     let mut level: u16 = 1;
     while level < VOID {
@@ -234,7 +235,7 @@ pub fn solve_tables(
             level,
         );
         if beyond(tablebase, tables, bounds.limit, level) {
-            fill_pair(tablebase, tables, VOID);
+            fill_tables(tablebase, tables, VOID);
             return true;
         }
         level = 1 + pair_least(tablebase, tables, level);
@@ -243,7 +244,7 @@ pub fn solve_tables(
         return false;
     }
     if pair_decided(tablebase, binomials, masks, bounds.rings, tables) {
-        fill_pair(tablebase, tables, VOID);
+        fill_tables(tablebase, tables, VOID);
         return true;
     }
     false

@@ -2,10 +2,11 @@
 ghost use mathlib.Core.Path.{_≡_};
 ghost use Prim.Native.Nat.{_+_};
 ghost use lib.ListN.{length};
-ghost use Rattle.invariance.specs.Used.{Used, LowerSymmetric};
-ghost use Rattle.probing.specs.Questions.{Lent};
-ghost use Rattle.solver.specs.Pairs.{PairGiven, RowGiven, AllGiven};
-ghost use Rattle.solver.specs.Solve.{PairFill, PairsFilled, WholeFill};
+ghost use Rattle.invariance.specs.Symmetric.{LowerSymmetric};
+ghost use Rattle.invariance.specs.Inner.Used.{Used};
+ghost use Rattle.probing.specs.Inner.Questions.{Lent};
+ghost use Rattle.solver.specs.Inner.Pairs.{PairGiven, RowGiven, AllGiven};
+ghost use Rattle.solver.specs.Inner.Solve.{PairFill, PairsFilled, WholeFill};
 use super::pairs;
 use super::pairs::Bounds;
 use super::pairs::Tables;

@@ -9,16 +9,16 @@ use Rattle.board.proofs.Sides.{board-position, position-on}
 use Rattle.sizes.specs.Size.{size}
 use Rattle.ranking.specs.Unrank.{unrank}
 use Rattle.ranking.proofs.Inverse.{rank-unrank}
-use Rattle.plies.specs.Positions.{Placed}
+use Rattle.plies.specs.Inner.Positions.{Placed}
 use Rattle.game.specs.Judgement.{hit, decided}
 use Rattle.outcomes.specs.Whole.{next}
-use Rattle.probing.specs.Probes.{probe, Reads}
+use Rattle.probing.specs.Inner.Probes.{probe, Reads}
 use Rattle.sweeping.specs.declared.tables.Table.{Table}
-use Rattle.sweeping.specs.Levels.{Fits, isOpen, ranked, judged, openDecided}
+use Rattle.sweeping.specs.Inner.Levels.{Fits, isOpen, boardAt, judged, openDecided}
 
 pub record AtRank (n rings : ℕ) (t : Table) (same r : ℕ) (p : Position) : Type 0 where
   pub placed : Placed rings p
-  pub board-is : boardOf (8 * rings) p ≡ ranked rings t same r
+  pub board-is : boardOf (8 * rings) p ≡ boardAt rings t same r
   pub opponent-is : count 2 (boardOf (8 * rings) p) ≡ t .opponent
   pub reads : Reads n (8 * rings) (count 1 (boardOf (8 * rings) p)) (count 2 (boardOf (8 * rings) p)) same (t .lower .start)
 
@@ -52,18 +52,18 @@ module _ (rings : ℕ) (t : Table) (same r : ℕ) (now : List ℕ) where
   -- what was read of the successors is what the level goes by
   module _ (n : ℕ) (p : Position) (w : AtRank n rings t same r p) where
     pub hit-at : (level : ℕ) → hit (next rings) (λ b. probe now same (t .lower .start) (count 2 (boardOf (8 * rings) p)) b) level (boardOf (8 * rings) p)
-        ≡ hit (next rings) (judged rings t same now) level (ranked rings t same r)
+        ≡ hit (next rings) (judged rings t same now) level (boardAt rings t same r)
     hit-at level = ap₂ (λ (y : ℕ) (c : List ℕ). hit (next rings) (λ b. probe now same (t .lower .start) y b) level c) (w .opponent-is) (w .board-is)
 
     pub decided-at : decided (next rings) (λ b. probe now same (t .lower .start) (count 2 (boardOf (8 * rings) p)) b) (boardOf (8 * rings) p)
-        ≡ decided (next rings) (judged rings t same now) (ranked rings t same r)
+        ≡ decided (next rings) (judged rings t same now) (boardAt rings t same r)
     decided-at = ap₂ (λ (y : ℕ) (c : List ℕ). decided (next rings) (λ b. probe now same (t .lower .start) y b) c) (w .opponent-is) (w .board-is)
 
   pub closed-undecided : isOpen t now r ≡ false → false ≡ openDecided rings t same now r
   unfolding openDecided
   closed-undecided e = rw (e, openDecided)
 
-  pub open-decided : isOpen t now r ≡ true → (d : Bool) → d ≡ decided (next rings) (judged rings t same now) (ranked rings t same r) → d ≡ openDecided rings
+  pub open-decided : isOpen t now r ≡ true → (d : Bool) → d ≡ decided (next rings) (judged rings t same now) (boardAt rings t same r) → d ≡ openDecided rings
       t same now r
   unfolding openDecided
   open-decided e d h = rw (e, openDecided) h

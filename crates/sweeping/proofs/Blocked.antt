@@ -20,7 +20,7 @@ use Rattle.rules.proofs.Jumps.{three-free}
 use Rattle.game.specs.Game.{drawEntry}
 use Rattle.outcomes.specs.Whole.{next}
 use Rattle.sweeping.specs.declared.tables.Table.{Table}
-use Rattle.sweeping.specs.Levels.{isOpen, blockedPlace, blockedFirst, blockedRange, allFree}
+use Rattle.sweeping.specs.Inner.Levels.{isOpen, blockedPlace, blockedFirst, blockedRange, allFree}
 
 empty-map : {A B : Type 0} (f : A → B) (l : List A) → isEmpty (map f l) ≡ isEmpty l
 empty-map f [] = refl

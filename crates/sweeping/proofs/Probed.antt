@@ -20,9 +20,9 @@ use Rattle.outcomes.specs.Places.{successorEntry}
 use Rattle.outcomes.specs.Whole.{next}
 use Rattle.outcomes.proofs.Ranked.{InTable, place-at}
 use Rattle.outcomes.proofs.Entries.{entry-place, entry-two, entry-three}
-use Rattle.probing.specs.Probes.{probe, Reads}
+use Rattle.probing.specs.Inner.Probes.{probe, Reads}
 use Rattle.probing.proofs.Reading.{probe-same, probe-two, probe-fewer}
-use Rattle.sweeping.specs.Tables.{lowerStart, lowerEnd}
+use Rattle.sweeping.specs.Inner.Tables.{lowerStart, lowerEnd}
 
 module _ (points k m o : ℕ) where
   pub lower-starts : 4 ≤ o → lowerStart points k m o ≡ start points k (o - 1) m

@@ -15,18 +15,19 @@ use Rattle.rules.specs.Predecessors.{predecessors}
 use Rattle.game.specs.Game.{drawEntry, voidEntry}
 use Rattle.game.specs.Judgement.{hit}
 use Rattle.outcomes.specs.Whole.{next}
-use Rattle.parts.specs.Finding.{First, isAt}
+use Rattle.parts.specs.Inner.Finding.{First, isAt}
 use Rattle.parts.proofs.Firsts.{first-same, first-from}
-use Rattle.imaging.specs.Images.{imagesWritten}
+use Rattle.imaging.specs.Inner.Images.{imagesWritten}
 use Rattle.imaging.proofs.OnSets.{images-length}
-use Rattle.marking.specs.Marks.{marked, places}
+use Rattle.marking.specs.Inner.Marks.{marked, places}
 use Rattle.marking.proofs.Marks.{marked-length}
 use Rattle.sweeping.specs.declared.tables.Table.{Table}
 use Rattle.sweeping.specs.declared.cursor.Cursor.{Cursor}
-use Rattle.sweeping.specs.Cursors.{Stands}
+use Rattle.sweeping.specs.Inner.Cursors.{Stands}
 use Rattle.sweeping.specs.declared.marks.Source.{Source}
-use Rattle.sweeping.specs.Levels.{ranked, judged}
-use Rattle.sweeping.specs.Marked.{sameSource, lowerSource, isSource, goneBack, markedPlace, markedFrom, isMarked, judgedClass, judgedFirst, levelMarks, levelByClasses}
+use Rattle.sweeping.specs.Inner.Levels.{boardAt, judged}
+use Rattle.sweeping.specs.Inner.Marked.{sameSource, lowerSource, isSource, goneBack, markedPlace, markedFrom, isMarked, judgedClass, judgedFirst}
+use Rattle.sweeping.specs.Inner.Marked.{levelMarks, levelByClasses}
 
 -- the positions of a depth: all or none of two stones, else by their entries
 module _ (s : Source) (depth : ℕ) (now : List ℕ) (r size : ℕ) (h : r ≤ size) where
@@ -126,12 +127,12 @@ module _ (rings start : ℕ) (s : Source) (capture : Bool) (depth : ℕ) (picked
 
 module _ (rings : ℕ) (t : Table) (same level maps : ℕ) where
   -- a marked position, as the code judges it
-  pub judged-hit : (r : ℕ) (now : List ℕ) → isMarked t now r ≡ true → hit (next rings) (judged rings t same now) level (ranked rings t same r) ≡ true
-      → (b : List ℕ) → b ≡ ranked rings t same r → imagesWritten rings (t .own .start) b level now maps ≡ judgedClass rings t same level maps now r
+  pub judged-hit : (r : ℕ) (now : List ℕ) → isMarked t now r ≡ true → hit (next rings) (judged rings t same now) level (boardAt rings t same r) ≡ true
+      → (b : List ℕ) → b ≡ boardAt rings t same r → imagesWritten rings (t .own .start) b level now maps ≡ judgedClass rings t same level maps now r
   unfolding judgedClass
   judged-hit r now e h b f = rw (e, h, f, judgedClass)
 
-  pub judged-miss : (r : ℕ) (now : List ℕ) → isMarked t now r ≡ true → hit (next rings) (judged rings t same now) level (ranked rings t same r) ≡ false
+  pub judged-miss : (r : ℕ) (now : List ℕ) → isMarked t now r ≡ true → hit (next rings) (judged rings t same now) level (boardAt rings t same r) ≡ false
       → set now (t .own .start + r) drawEntry ≡ judgedClass rings t same level maps now r
   unfolding judgedClass
   judged-miss r now e h = rw (e, h, judgedClass)
@@ -142,11 +143,11 @@ module _ (rings : ℕ) (t : Table) (same level maps : ℕ) where
 
   pub judged-length : (r : ℕ) (now : List ℕ) → length (judgedClass rings t same level maps now r) ≡ length now
   unfolding judgedClass
-  judged-length r now = go (isMarked t now r) refl (hit (next rings) (judged rings t same now) level (ranked rings t same r)) refl
+  judged-length r now = go (isMarked t now r) refl (hit (next rings) (judged rings t same now) level (boardAt rings t same r)) refl
     where
-      go : (b : Bool) → isMarked t now r ≡ b → (c : Bool) → hit (next rings) (judged rings t same now) level (ranked rings t same r) ≡ c
+      go : (b : Bool) → isMarked t now r ≡ b → (c : Bool) → hit (next rings) (judged rings t same now) level (boardAt rings t same r) ≡ c
           → length (judgedClass rings t same level maps now r) ≡ length now
-      go true e true f = rw (e, f, judgedClass) (images-length rings (t .own .start) (ranked rings t same r) level now maps)
+      go true e true f = rw (e, f, judgedClass) (images-length rings (t .own .start) (boardAt rings t same r) level now maps)
       go true e false f = rw (e, f, judgedClass) (length-set now (t .own .start + r) drawEntry)
       go false e c f = ap length (judged-out r now e)
 

@@ -8,18 +8,18 @@ use Rattle.board.specs.Board.{count, digit}
 use Rattle.sizes.specs.Size.{size}
 use Rattle.ranking.specs.Unrank.{unrank}
 use Rattle.outcomes.proofs.Ranked.{unrank-in}
-use Rattle.marking.specs.Stones.{Room}
+use Rattle.marking.specs.Inner.Stones.{Room}
 use Rattle.sweeping.specs.declared.tables.Table.{Table}
 use Rattle.sweeping.specs.declared.marks.Source.{Source}
-use Rattle.sweeping.specs.Levels.{Lies}
-use Rattle.sweeping.specs.Marked.{Before, sameSource, lowerSource}
+use Rattle.sweeping.specs.Inner.Levels.{Lies}
+use Rattle.sweeping.specs.Inner.Marked.{LeadsTo, sameSource, lowerSource}
 
 -- the tables that plies from t lead to
-pub same-before : (t : Table) (same : ℕ) → Before t (sameSource t same) false
-same-before t same = record { mover-is = refl; opponent-is = omega arith }
+pub same-leads : (t : Table) (same : ℕ) → LeadsTo t (sameSource t same) false
+same-leads t same = record { mover-is = refl; opponent-is = omega arith }
 
-pub lower-before : (t : Table) → 3 ≤ t .opponent → Before t (lowerSource t) true
-lower-before t h = record { mover-is = refl; opponent-is = omega arith }
+pub lower-leads : (t : Table) → 3 ≤ t .opponent → LeadsTo t (lowerSource t) true
+lower-leads t h = record { mover-is = refl; opponent-is = omega arith }
 
 -- the table before has room for the boards before a position of s
 pub room-before : (rings n : ℕ) (s : Source) (capture : Bool) (start end : ℕ)
@@ -33,6 +33,6 @@ room-before rings n s capture start end w r h c e =
     rw (m, o) w
 
 -- and so has a table for those before the tables that its plies lead to
-pub room-of : (rings n : ℕ) (t : Table) (s : Source) (capture : Bool) → Before t s capture → Lies (8 * rings) t n
+pub room-of : (rings n : ℕ) (t : Table) (s : Source) (capture : Bool) → LeadsTo t s capture → Lies (8 * rings) t n
     → Room (8 * rings) (s .opponent) (s .mover + digit capture) (t .own .start) (t .own .end) n
 room-of rings n t s capture leads w = rw (leads .mover-is, leads .opponent-is) w

@@ -3,10 +3,10 @@
 ghost use mathlib.Core.Path.{_≡_};
 ghost use Prim.Native.Nat.{_<_};
 ghost use lib.ListN.{length};
-ghost use Rattle.imaging.specs.Images.{leastOfClass};
-ghost use Rattle.probing.specs.Questions.{Lent};
-ghost use Rattle.sweeping.specs.Levels.{CountsFit, Sweeping};
-ghost use Rattle.sweeping.specs.Marked.{levelByClasses};
+ghost use Rattle.imaging.specs.Inner.Images.{leastOfClass};
+ghost use Rattle.probing.specs.Inner.Questions.{Lent};
+ghost use Rattle.sweeping.specs.Inner.Levels.{CountsFit, Sweeping};
+ghost use Rattle.sweeping.specs.Inner.Marked.{levelByClasses};
 use super::judging::judge_marked;
 use super::marks::Layer;
 use super::marks::Source;

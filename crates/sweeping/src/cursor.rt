@@ -3,9 +3,9 @@ ghost use mathlib.Core.Path.{_≡_};
 ghost use Prim.Native.Nat.{_+_, _*_, _≤_, _<_};
 ghost use Rattle.board.specs.Board.{positionOf};
 ghost use Rattle.sizes.specs.Size.{size};
-ghost use Rattle.sizes.specs.Binomial.{BinomialTable};
+ghost use Rattle.sizes.specs.Inner.Binomial.{BinomialTable};
 ghost use Rattle.ranking.specs.Unrank.{unrank};
-ghost use Rattle.sweeping.specs.Cursors.{Stands};
+ghost use Rattle.sweeping.specs.Inner.Cursors.{Stands};
 
 // A rank and its position. A rank above all that are sought stands for none yet.
 pub struct Cursor {

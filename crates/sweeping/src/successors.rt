@@ -2,10 +2,10 @@
 ghost use mathlib.Core.Path.{_≡_};
 ghost use Prim.Native.Nat.{_*_, _≤_};
 ghost use Rattle.board.specs.Board.{count, boardOf};
-ghost use Rattle.sizes.specs.Binomial.{BinomialTable};
+ghost use Rattle.sizes.specs.Inner.Binomial.{BinomialTable};
 ghost use Rattle.layout.specs.Layout.{start};
-ghost use Rattle.plies.specs.Positions.{Placed};
-ghost use Rattle.sweeping.specs.Tables.{lowerStart};
+ghost use Rattle.plies.specs.Inner.Positions.{Placed};
+ghost use Rattle.sweeping.specs.Inner.Tables.{lowerStart};
 use super::tables;
 use probing::Starts;
 

@@ -1,9 +1,9 @@
 // Where a table and the table below it lie in a tablebase.
 ghost use mathlib.Core.Path.{_≡_};
 ghost use Prim.Native.Nat.{_≤_};
-ghost use Rattle.sizes.specs.Binomial.{BinomialTable};
+ghost use Rattle.sizes.specs.Inner.Binomial.{BinomialTable};
 ghost use Rattle.layout.specs.Layout.{start, end};
-ghost use Rattle.sweeping.specs.Tables.{lowerStart, lowerEnd, Located};
+ghost use Rattle.sweeping.specs.Inner.Tables.{lowerStart, lowerEnd, Located};
 use parts::Part;
 
 // The table (mover, opponent): its own part, and that of the table which a removal leads to, empty where that leaves two stones.

@@ -8,7 +8,7 @@ use native.Mathlib.Omega.{arith}
 use lib.Dec.{ltb}
 use borrow.Author.Tests.{ltb-true, ltb-false}
 use Rattle.io.specs.Digits.{digits, Fewest}
-use Rattle.text.specs.Text.{places, decimal}
+use Rattle.text.specs.Text.{digitCount, decimal}
 
 fewest-lt : (n k j : ℕ) → Fewest 10 1 n k → Fewest 10 1 n j → k < j → ⊥
 fewest-lt n k j a b h = omega (arith, a .0, a .1, b .2 (omega (arith, a .0)), pow-le-pow-right {n = 10} (omega arith) {i = k} {j = j - 1} (omega arith))
@@ -30,18 +30,18 @@ one-more n (suc (suc q)) h l f =
     let g : 10 ^ suc q ≤ n / 10 = subst (λ (m : ℕ). 10 ^ m ≤ n / 10) e (f (omega arith)) in
     omega (arith, pow-suc 10 (suc q))
 
-places-fewest : (steps n : ℕ) → n < 10 ^ suc steps → Fewest 10 1 n (places steps n)
-unfolding places
+places-fewest : (steps n : ℕ) → n < 10 ^ suc steps → Fewest 10 1 n (digitCount steps n)
+unfolding digitCount
 places-fewest zero n h = (omega arith, h, λ l. absurd (omega arith))
 places-fewest (suc steps) n h = go (ltb n 10) refl (λ l. places-fewest steps (n / 10) l)
   where
-    go : (t : Bool) → ltb n 10 ≡ t → (n / 10 < 10 ^ suc steps → Fewest 10 1 (n / 10) (places steps (n / 10)))
-        → Fewest 10 1 n (cond t 1 (suc (places steps (n / 10))))
+    go : (t : Bool) → ltb n 10 ≡ t → (n / 10 < 10 ^ suc steps → Fewest 10 1 (n / 10) (digitCount steps (n / 10)))
+        → Fewest 10 1 n (cond t 1 (suc (digitCount steps (n / 10))))
     go true e r = (omega arith, ltb-true n 10 e, λ l. absurd (omega arith))
     go false e r =
         let b = ltb-false n 10 e in
         let w = r (omega (arith, pow-suc 10 (suc steps))) in
-        let p : ℕ = places steps (n / 10) in
+        let p : ℕ = digitCount steps (n / 10) in
         let d : suc p - 1 ≡ p = omega arith in
         (omega arith, omega (arith, w .1, pow-suc 10 p), λ l. subst (λ (m : ℕ). 10 ^ m ≤ n) (sym d) (one-more n p b (w .0) (w .2)))
 
@@ -52,7 +52,7 @@ below-power (suc n) = omega (arith, below-power n, pow-suc 10 (suc n))
 -- the fewest digits are the definition's
 pub decimal-is : (n k : ℕ) → Fewest 10 1 n k → digits 10 k n ≡ decimal n
 unfolding decimal
-decimal-is n k w = ap (λ (j : ℕ). digits 10 j n) (fewest-one n k (places n n) w (places-fewest n n (below-power n)))
+decimal-is n k w = ap (λ (j : ℕ). digits 10 j n) (fewest-one n k (digitCount n n) w (places-fewest n n (below-power n)))
 
 -- and 20 of them hold every u64
 pub fewest-small : (n k : ℕ) → n < 2 ^ 64 → Fewest 10 1 n k → k ≤ 20

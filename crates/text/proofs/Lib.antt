@@ -1,2 +1,2 @@
 pub mod Digits
-pub mod Parts
+pub mod Items

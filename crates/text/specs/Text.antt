@@ -9,13 +9,13 @@ use Rattle.text.specs.declared.Field.{Field}
 use Rattle.text.specs.declared.Field.the-variants.{Number, Absent}
 
 -- how many digits n takes in base ten, found in so many steps; n steps are always enough
-unfoldable pub places : ℕ → ℕ → ℕ
-places zero n = 1
-places (suc steps) n = cond (ltb n 10) 1 (suc (places steps (n / 10)))
+unfoldable pub digitCount : ℕ → ℕ → ℕ
+digitCount zero n = 1
+digitCount (suc steps) n = cond (ltb n 10) 1 (suc (digitCount steps (n / 10)))
 
 -- a number in base ten
 unfoldable pub decimal : ℕ → List ℕ
-decimal n = digits 10 (places n n) n
+decimal n = digits 10 (digitCount n n) n
 
 abbrev pub lineFeed : ℕ
 lineFeed = 10
@@ -48,10 +48,6 @@ refusedWord = 114 ∷ 101 ∷ 102 ∷ 117 ∷ 115 ∷ 101 ∷ 100 ∷ space ∷ 
 -- the line of a refused frame: `refused` and the number
 unfoldable pub refusedLine : ℕ → List ℕ
 refusedLine number = refusedWord ++ item (Number number) lineFeed
-
--- as many bytes as a line takes at most: six numbers of 20 digits, and a byte after each
-abbrev pub mostBytes : ℕ
-mostBytes = 126
 
 -- the header: `rings mover opponent rank entry move`
 unfoldable pub header : List ℕ

@@ -5,7 +5,8 @@ ghost use Prim.Native.Nat.{_+_, _≤_};
 ghost use lib.ListN.{length};
 ghost use lib.Seq.{sets};
 ghost use Rattle.io.specs.Counts.{Counts};
-ghost use Rattle.text.specs.Text.{decimal, item, positionLine, refusedLine, mostBytes, header};
+ghost use Rattle.text.specs.Text.{decimal, item, positionLine, refusedLine, header};
+ghost use Rattle.text.specs.Inner.Room.{mostBytes};
 
 // A field of a line: a number, or `-`.
 pub enum Field {

@@ -10,7 +10,8 @@ use Rattle.lists.proofs.Members.{getD-member}
 use Rattle.lists.proofs.Tests.{is-member}
 use Rattle.board.specs.Board.{boardOf}
 use Rattle.rules.specs.Ply.{listedMoves}
-use Rattle.bestmove.specs.Best.{bestEntry, bestMove, entryBy}
+use Rattle.bestmove.specs.Best.{bestEntry, bestMove}
+use Rattle.bestmove.specs.Inner.Worth.{entryBy}
 use Rattle.bestmove.proofs.MoveEntries.{moves-told}
 use Rattle.bestmove.proofs.Running.{Running, running-none, running-more, running-all}
 use borrow.Author.Needs.{needs}

@@ -1,7 +1,7 @@
 -- `bestmove::better` meets its contract. Assumes nothing.
 use native.Mathlib.Omega.{arith}
 use borrow.Author.Tests.{lt-ltb, le-ltb}
-use Rattle.bestmove.specs.Best.{worth}
+use Rattle.bestmove.specs.Inner.Worth.{worth}
 use borrow.Author.Needs.{needs}
 use Rattle.bestmove.proofs.better.Statement.{statement}
 use Rattle.bestmove.proofs.better.Tie as tie

@@ -4,14 +4,14 @@ use mathlib.Core.Bool.{not}
 use Prim.Native.Nat.{_-_}
 use native.Mathlib.Omega.{arith}
 use borrow.Author.Tests.{eq-eqb, ne-eqb}
-use Rattle.parts.specs.Finding.{Passed}
+use Rattle.parts.specs.Inner.Finding.{NoneBefore}
 use Rattle.parts.proofs.Firsts.{passed-none, passed-one, first-here, first-none}
-use Rattle.comparing.specs.Compared.{isDecided}
+use Rattle.comparing.specs.Inner.Compared.{isDecided}
 use Rattle.comparing.proofs.find_decided.Statement.{statement}
 use Rattle.comparing.proofs.find_decided.Tie as tie
 
 abbrev Inv-loop : tie.InvT-loop
-Inv-loop tablebase start size r i₀ i = Passed (isDecided start tablebase) r size i
+Inv-loop tablebase start size r i₀ i = NoneBefore (isDecided start tablebase) r size i
 
 abbrev μ-loop : tie.MeasureT-loop
 μ-loop tablebase start size r i₀ i = size - i

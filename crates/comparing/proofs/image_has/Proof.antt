@@ -6,7 +6,7 @@ use lib.Dec.{eqb}
 use lib.ListN.{getD, length}
 use Rattle.ranking.specs.Rank.{rank}
 use Rattle.imaging.proofs.OnSets.{image-rank}
-use Rattle.comparing.specs.Compared.{imageHas}
+use Rattle.comparing.specs.Inner.Compared.{imageHas}
 use borrow.Author.Needs.{needs}
 use Rattle.comparing.proofs.image_has.Statement.{statement}
 use Rattle.comparing.proofs.image_has.Tie as tie

@@ -9,19 +9,19 @@ use Rattle.board.specs.Board.{boardOf, count}
 use Rattle.sizes.specs.Size.{size}
 use Rattle.ranking.specs.Unrank.{unrank}
 use Rattle.ranking.proofs.Inverse.{rank-unrank}
-use Rattle.plies.specs.Positions.{Placed}
-use Rattle.sweeping.specs.Cursors.{Stands}
+use Rattle.plies.specs.Inner.Positions.{Placed}
+use Rattle.sweeping.specs.Inner.Cursors.{Stands}
 use Rattle.sweeping.proofs.AtRank.{placed-at}
 use Rattle.sweeping.proofs.Sought.{stands-at}
-use Rattle.comparing.specs.Compared.{sameImages}
-use Rattle.comparing.proofs.Tested.{images-same, Passed, passed-over, passed-one, passed-all}
+use Rattle.comparing.specs.Inner.Compared.{sameImages}
+use Rattle.comparing.proofs.Tested.{images-same, AllTested, passed-over, passed-one, passed-all}
 use Rattle.comparing.proofs.is_symmetric.Statement.{statement}
 use Rattle.comparing.proofs.is_symmetric.Tie as tie
 
 abbrev Inv-loop : tie.InvT-loop
 Inv-loop tablebase binomials images rings table start n at₀ r₀ at r =
     (n ≡ size (8 * rings) (table .mover) (table .opponent)) × (r ≤ n)
-    × ((few : rings ≤ 3) → Passed rings start (table .mover) (table .opponent) tablebase few r) × Stands rings (table .mover) (table .opponent) n at
+    × ((few : rings ≤ 3) → AllTested rings start (table .mover) (table .opponent) tablebase few r) × Stands rings (table .mover) (table .opponent) n at
 
 abbrev μ-loop : tie.MeasureT-loop
 μ-loop tablebase binomials images rings table start n at₀ r₀ at r = n - r

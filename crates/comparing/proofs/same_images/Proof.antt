@@ -1,7 +1,7 @@
 -- `comparing::same_images` meets its contract. Assumes nothing.
 use mathlib.Core.Path.{ap₂}
 use mathlib.Core.Bool.{Bool, _&&_}
-use Rattle.comparing.specs.Compared.{sameImages}
+use Rattle.comparing.specs.Inner.Compared.{sameImages}
 use borrow.Author.Needs.{needs}
 use Rattle.comparing.proofs.same_images.Statement.{statement}
 use Rattle.comparing.proofs.same_images.Tie as tie

@@ -3,7 +3,7 @@ use mathlib.Core.Path.{sym}
 use Prim.Native.Nat.{_*_}
 use Rattle.board.specs.Board.{boardOf}
 use Rattle.rules.specs.Predecessors.{restored}
-use Rattle.marking.specs.Stones.{VacantAt}
+use Rattle.marking.specs.Inner.Stones.{VacantAt}
 use Rattle.marking.proofs.Marking.{Marking, marking-none, marking-more, marking-all}
 use Rattle.marking.proofs.Before.{returning-same}
 use Rattle.marking.proofs.mark_each_origin.Statement.{statement}

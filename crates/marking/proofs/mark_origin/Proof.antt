@@ -10,10 +10,10 @@ use Rattle.board.specs.Board.{digit, boardOf}
 use Rattle.ranking.specs.Rank.{rank}
 use Rattle.rules.specs.Predecessors.{restored}
 use Rattle.plies.proofs.OnPositions.{opponent-small}
-use Rattle.marking.specs.Marks.{marked, places}
+use Rattle.marking.specs.Inner.Marks.{marked, places}
 use Rattle.marking.proofs.Marks.{marked-one}
 use Rattle.marking.proofs.Before.{before-placed, before-board, before-mover, before-opponent, others-vacant, room-same}
-use Rattle.marking.proofs.Stones.{restored-none, restored-given}
+use Rattle.marking.proofs.Origins.{restored-none, restored-given}
 use borrow.Author.Needs.{needs}
 use Rattle.marking.proofs.mark_origin.Statement.{statement}
 use Rattle.marking.proofs.mark_origin.Tie as tie

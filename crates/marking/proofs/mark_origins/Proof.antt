@@ -11,9 +11,9 @@ use Rattle.sets.proofs.Elements.{bit-low}
 use Rattle.board.specs.Board.{digit, boardOf}
 use Rattle.rules.specs.Predecessors.{restored}
 use Rattle.plies.proofs.OnPositions.{opponent-small}
-use Rattle.marking.specs.Marks.{marked, places}
+use Rattle.marking.specs.Inner.Marks.{marked, places}
 use Rattle.marking.proofs.Before.{lifted-placed, lifted-mover, lifted-opponent, lifted-vacant, room-same}
-use Rattle.marking.proofs.Stones.{lifted-given}
+use Rattle.marking.proofs.Origins.{lifted-given}
 use borrow.Author.Needs.{needs}
 use Rattle.marking.proofs.mark_origins.Statement.{statement}
 use Rattle.marking.proofs.mark_origins.Tie as tie

@@ -8,7 +8,7 @@ use Rattle.board.proofs.Sides.{length-board, board-values}
 use Rattle.sizes.specs.Size.{size}
 use Rattle.ranking.specs.Rank.{rank}
 use Rattle.ranking.proofs.Inverse.{rank-low}
-use Rattle.marking.specs.Marks.{markAt}
+use Rattle.marking.specs.Inner.Marks.{markAt}
 use Rattle.marking.proofs.Marks.{mark-is}
 use borrow.Author.Needs.{needs}
 use Rattle.marking.proofs.mark_position.Statement.{statement}

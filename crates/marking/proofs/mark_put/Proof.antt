@@ -11,9 +11,9 @@ use Rattle.board.specs.Board.{count, digit, boardOf}
 use Rattle.board.proofs.Sides.{length-board, board-values}
 use Rattle.sizes.specs.Size.{size}
 use Rattle.ranking.specs.Rank.{rank}
-use Rattle.ranking.specs.Inserting.{Inserting, Vacant}
+use Rattle.ranking.specs.Inner.Inserting.{Inserting, Vacant}
 use Rattle.ranking.proofs.Insertions.{put-low}
-use Rattle.marking.specs.Marks.{markAt, marked, places}
+use Rattle.marking.specs.Inner.Marks.{markAt, marked, places}
 use Rattle.marking.proofs.Marks.{mark-is, marked-one}
 use Rattle.marking.proofs.Marking.{Marking, marking-none, marking-more, marking-all, each-one}
 use Rattle.marking.proofs.Before.{vacant-board}

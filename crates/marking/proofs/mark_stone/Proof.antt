@@ -7,10 +7,10 @@ use Rattle.sets.proofs.Elements.{bit-low}
 use Rattle.board.specs.Board.{boardOf}
 use Rattle.rules.specs.Predecessors.{restored}
 use Rattle.plies.proofs.OnPositions.{opponent-small}
-use Rattle.marking.specs.Marks.{marked, places}
+use Rattle.marking.specs.Inner.Marks.{marked, places}
 use Rattle.marking.proofs.Marks.{marked-none}
 use Rattle.marking.proofs.Before.{turned-placed}
-use Rattle.marking.proofs.Stones.{origins-given, origins-vacant, stone-moved, stone-still}
+use Rattle.marking.proofs.Origins.{origins-given, origins-vacant, stone-moved, stone-still}
 use borrow.Author.Needs.{needs}
 use Rattle.marking.proofs.mark_stone.Statement.{statement}
 use Rattle.marking.proofs.mark_stone.Tie as tie
@@ -24,8 +24,8 @@ may-have-moved-requires c κs =
       bit-low 24 (a .position .opponent) (a .to) (opponent-small (a .rings) (a .position) p) (s .pre .1 .1),
     )
 
-targets-requires : tie.Need-targets-requires
-targets-requires c κs =
+destinations-requires : tie.Need-destinations-requires
+destinations-requires c κs =
     let s = c .before .before .before in
     let a = s .args in
     let p = s .pre .0 .placed in (
@@ -39,7 +39,7 @@ mark-origins-requires c κs =
     let s = t .before .before .before .before in
     let a = s .args in
     let g = s .pre .1 .1 in
-    (s .pre .0, (g, origins-vacant (a .rings) (a .position) (s .pre .0 .placed) (a .to) (t .targets .result) g (t .targets .ensures)))
+    (s .pre .0, (g, origins-vacant (a .rings) (a .position) (s .pre .0 .placed) (a .to) (t .destinations .result) g (t .destinations .ensures)))
 
 same-length : tie.Need-same-length
 same-length c = search needs
@@ -56,7 +56,7 @@ returns c =
     m .mark-origins .ensures
     ∙ ap (λ (l : List (List ℕ)). marked (places (a .back .part .start) l) (a .tablebase .now))
     (ap (each (λ from. restored (a .back .capture) (a .rings) b (a .to) from))
-    (origins-given (a .rings) (a .position) p (a .to) (t .targets .result) (t .targets .ensures))
+    (origins-given (a .rings) (a .position) p (a .to) (t .destinations .result) (t .destinations .ensures))
     ∙ sym (stone-moved (a .rings) (a .position) p (a .back .capture) (a .to) (sym (i .before .may-have-moved .ensures) ∙ i .if1 .taken)))
 
 returns-2 : tie.Need-returns-2
@@ -72,7 +72,7 @@ mark-stone-spec =
     tie.close
     (tie.spec
     may-have-moved-requires
-    targets-requires
+    destinations-requires
     mark-origins-requires
     same-length
     returns

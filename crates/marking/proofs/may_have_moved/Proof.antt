@@ -3,8 +3,8 @@ use mathlib.Core.Path.{sym, ap, _∙_}
 use mathlib.Core.Bool.{Bool}
 use Prim.Native.Nat.{_*_}
 use Rattle.board.specs.Board.{boardOf}
-use Rattle.marking.specs.Stones.{mayHaveMoved}
-use Rattle.marking.proofs.Stones.{moved-any, moved-mill}
+use Rattle.marking.specs.Inner.Stones.{mayHaveMoved}
+use Rattle.marking.proofs.Origins.{moved-any, moved-mill}
 use borrow.Author.Needs.{needs}
 use Rattle.marking.proofs.may_have_moved.Statement.{statement}
 use Rattle.marking.proofs.may_have_moved.Tie as tie

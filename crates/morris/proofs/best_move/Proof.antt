@@ -22,7 +22,7 @@ use Rattle.refusals.proofs.Conditions.{few-points}
 use Rattle.morris.proofs.Positions.{ShowsBoard, board-shown}
 use Rattle.morris.proofs.BestMoves.{Starting, reads-of, void-of, move-of, entry-of}
 use Rattle.refusals.proofs.Answering.{answer-refused, answer-accepted}
-use Rattle.probing.specs.Questions.{Probing}
+use Rattle.probing.specs.Inner.Questions.{Probing}
 use Rattle.morris.proofs.best_move.Statement.{statement}
 use Rattle.morris.proofs.best_move.Tie as tie
 

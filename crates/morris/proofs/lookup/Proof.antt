@@ -11,7 +11,7 @@ use Rattle.board.specs.Board.{count}
 use Rattle.sizes.proofs.Multinomials.{size-small}
 use Rattle.ranking.specs.Rank.{rank}
 use Rattle.layout.specs.Layout.{start}
-use Rattle.outcomes.specs.Places.{place, entryAt, isVoid}
+use Rattle.outcomes.specs.Places.{placeOf, entryAt, isVoid}
 use Rattle.outcomes.proofs.Boards.{place-of, place-within, place-sum, entry-read}
 use Rattle.refusals.specs.Refusals.{refusal}
 use Rattle.refusals.specs.Conditions.{tablebasePicks, lookupPicks}
@@ -67,7 +67,7 @@ rank-is c = c .rank .ensures ∙ shows (c .before .before .before .before .befor
 
 at-place : (c : tie.After-rank)
     → c .before .before .start .result + c .rank .result
-    ≡ place (started (reading c) .args .rings) (started (reading c) .args .k) (started (reading c) .args .board .now)
+    ≡ placeOf (started (reading c) .args .rings) (started (reading c) .args .k) (started (reading c) .args .board .now)
 at-place c =
     let a = started (reading c) .args in
     let b : List ℕ = a .board .now in

@@ -6,7 +6,7 @@ use borrow.Author.Needs.{needs}
 use lib.ListN.{length, drop, getD}
 use lib.Seq.{drop-length}
 use Rattle.game.specs.Game.{voidEntry}
-use Rattle.parts.specs.Parts.{lower, leastFrom}
+use Rattle.parts.specs.Inner.Finding.{nearer, leastFrom}
 use Rattle.parts.proofs.Down.{drop-down}
 use Rattle.parts.proofs.LeastDepth.{least-none, least-more, least-most}
 use Rattle.parts.proofs.least_from.Statement.{statement}
@@ -54,7 +54,7 @@ loop-again c =
     let x = c .before .before .before in
     let a = x .before .before .args in
     let e : a .low + c .nearer .result ≡ leastFrom (a .low) (drop (x .loop .i - 1) (a .part .now)) =
-    c .nearer .ensures ∙ ap (λ (l : ℕ). lower l (getD (a .part .now) (x .loop .i - 1) 0) (a .low)) (x .loop .inv .1)
+    c .nearer .ensures ∙ ap (λ (l : ℕ). nearer l (getD (a .part .now) (x .loop .i - 1) 0) (a .low)) (x .loop .inv .1)
     ∙ sym (ap (leastFrom (a .low)) (drop-down (x .loop .i) (a .part .now) (c .before .before .loop-test .taken) (x .loop .inv .0)) ∙ least-more (a .low) _ _) in
     (omega arith, e, omega (arith, e, least-most (a .low) (drop (x .loop .i - 1) (a .part .now))))
 

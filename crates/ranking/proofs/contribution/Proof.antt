@@ -4,9 +4,9 @@ use Prim.Native.Nat.{ℕ, _+_, _-_, _*_, _^_, _≤_}
 use native.Mathlib.Nat.{mul-le-mul}
 use native.Mathlib.Omega.{arith}
 use borrow.Author.Needs.{needs}
-use Rattle.sizes.specs.Binomial.{binomial}
+use Rattle.sizes.specs.Inner.Binomial.{binomial}
 use Rattle.sizes.proofs.Binomials.{binomial-small}
-use Rattle.ranking.proofs.Stones.{below-stone, cond-le}
+use Rattle.ranking.proofs.StoneRanks.{below-stone, cond-le}
 use Rattle.ranking.proofs.contribution.Statement.{statement}
 use Rattle.ranking.proofs.contribution.Tie as tie
 

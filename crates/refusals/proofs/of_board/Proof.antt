@@ -6,7 +6,7 @@ use native.Mathlib.Omega.{arith}
 use lib.ListN.{length}
 use borrow.Author.Tests.{eq-eqb, ne-eqb}
 use borrow.Author.Needs.{needs}
-use Rattle.refusals.specs.Refusals.{Picked, table, pickedRows}
+use Rattle.refusals.specs.Refusals.{Picked, refusalTable, pickedRows}
 use Rattle.refusals.specs.Conditions.{boardPicks, ringsWrong, lengthWrong, valueWrong}
 use Rattle.refusals.proofs.FirstRefusal.{meets, passes}
 use Rattle.refusals.proofs.Conditions.{rings-right}
@@ -15,7 +15,7 @@ use Rattle.refusals.proofs.of_board.Tie as tie
 
 -- the rows that the call picks
 rows : (s : tie.Start) → List Picked
-rows s = pickedRows table (boardPicks (s .args .rings) (s .args .board .now))
+rows s = pickedRows refusalTable (boardPicks (s .args .rings) (s .args .board .now))
 
 -- what each test passed says
 rings-passed : (c : tie.Else1) → ringsWrong (c .before .before .before .args .rings) ≡ false

@@ -4,7 +4,7 @@ use mathlib.Core.Bool.{false}
 use mathlib.Core.List.{List}
 use lib.ListN.{take}
 use borrow.Author.Needs.{needs}
-use Rattle.refusals.specs.Refusals.{Picked, table, pickedRows}
+use Rattle.refusals.specs.Refusals.{Picked, refusalTable, pickedRows}
 use Rattle.refusals.specs.Conditions.{ringsWrong, limitPicks, fillPicks}
 use Rattle.refusals.proofs.FirstRefusal.{meets, passes, first-after}
 use Rattle.refusals.proofs.Conditions.{rings-right}
@@ -13,7 +13,7 @@ use Rattle.refusals.proofs.of_fill.Tie as tie
 
 -- the rows that the call picks
 rows : (s : tie.Start) → List Picked
-rows s = pickedRows table (fillPicks (s .args .rings) (s .args .k) (s .args .limit) (s .args .length))
+rows s = pickedRows refusalTable (fillPicks (s .args .rings) (s .args .k) (s .args .limit) (s .args .length))
 
 rings-passed : (c : tie.Else1) → ringsWrong (c .before .before .args .rings) ≡ false
 rings-passed c = sym (c .before .rings-wrong .ensures) ∙ c .if1 .left
@@ -34,7 +34,7 @@ returns-2 c =
     let x = c .before in
     let a = x .before .before .args in
     c .of-limit .ensures
-    ∙ sym (first-after (take 1 (rows (x .before .before))) (pickedRows table (limitPicks (a .rings) (a .k) false (a .limit) (a .length))) refl
+    ∙ sym (first-after (take 1 (rows (x .before .before))) (pickedRows refusalTable (limitPicks (a .rings) (a .k) false (a .limit) (a .length))) refl
     (passes (take 1 (rows (x .before .before))) (rings-passed x, tt)))
 
 pub of-fill-spec : {M : Type 1} → statement M

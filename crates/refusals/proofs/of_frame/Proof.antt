@@ -7,7 +7,7 @@ use lib.ListN.{length}
 use borrow.Author.Tests.{eq-eqb, ne-eqb}
 use borrow.Author.Needs.{needs}
 use Rattle.frames.specs.Frame.{frameWrong, frameLength, ringsIn, boardIn}
-use Rattle.refusals.specs.Refusals.{Picked, table, pickedRows}
+use Rattle.refusals.specs.Refusals.{Picked, refusalTable, pickedRows}
 use Rattle.refusals.specs.Conditions.{framePicks, ringsWrong, frameLengthWrong, valueWrong}
 use Rattle.refusals.proofs.FirstRefusal.{meets, passes}
 use Rattle.refusals.proofs.Conditions.{rings-right}
@@ -17,7 +17,7 @@ use Rattle.refusals.proofs.of_frame.Tie as tie
 
 -- the rows that the call picks
 rows : (s : tie.Start) → List Picked
-rows s = pickedRows table (framePicks (s .args .frame .now))
+rows s = pickedRows refusalTable (framePicks (s .args .frame .now))
 
 -- what each test passed says
 characters-passed : (c : tie.Else1) → frameWrong (c .before .before .before .args .frame .now) ≡ false

@@ -4,7 +4,7 @@ use mathlib.Core.Bool.{false}
 use mathlib.Core.List.{List}
 use native.Mathlib.Omega.{arith}
 use borrow.Author.Needs.{needs}
-use Rattle.refusals.specs.Refusals.{Picked, table, pickedRows}
+use Rattle.refusals.specs.Refusals.{Picked, refusalTable, pickedRows}
 use Rattle.refusals.specs.Conditions.{largestWrong, largestPicks}
 use Rattle.refusals.proofs.FirstRefusal.{meets, passes}
 use Rattle.refusals.proofs.TablebaseConditions.{largest-right}
@@ -13,7 +13,7 @@ use Rattle.refusals.proofs.of_largest.Tie as tie
 
 -- the rows that are picked
 rows : (s : tie.Start) → List Picked
-rows s = pickedRows table (largestPicks (s .args .rings) (s .args .k) (s .args .above) (s .args .length))
+rows s = pickedRows refusalTable (largestPicks (s .args .rings) (s .args .k) (s .args .above) (s .args .length))
 
 largest-passed : (c : tie.Else1) → largestWrong (c .before .before .args .k) (c .before .before .args .above) ≡ false
 largest-passed c = sym (c .before .largest-wrong .ensures) ∙ c .if1 .left

@@ -3,7 +3,7 @@ use mathlib.Core.Path.{_≡_, sym, _∙_}
 use mathlib.Core.Bool.{false}
 use mathlib.Core.List.{List}
 use borrow.Author.Needs.{needs}
-use Rattle.refusals.specs.Refusals.{Picked, table, pickedRows}
+use Rattle.refusals.specs.Refusals.{Picked, refusalTable, pickedRows}
 use Rattle.refusals.specs.Conditions.{stonesPicks, ringsWrong}
 use Rattle.refusals.proofs.FirstRefusal.{meets, passes}
 use Rattle.refusals.proofs.of_stones.Statement.{statement}
@@ -11,7 +11,7 @@ use Rattle.refusals.proofs.of_stones.Tie as tie
 
 -- the rows that the call picks
 rows : (s : tie.Start) → List Picked
-rows s = pickedRows table (stonesPicks (s .args .rings) (s .args .mover) (s .args .opponent))
+rows s = pickedRows refusalTable (stonesPicks (s .args .rings) (s .args .mover) (s .args .opponent))
 
 rings-passed : (c : tie.Else1) → ringsWrong (c .before .before .args .rings) ≡ false
 rings-passed c = sym (c .before .rings-wrong .ensures) ∙ c .if1 .left

@@ -5,7 +5,7 @@ use mathlib.Core.List.{List}
 use Prim.Native.Nat.{ℕ}
 use borrow.Author.Needs.{needs}
 use Rattle.board.specs.Board.{count}
-use Rattle.refusals.specs.Refusals.{table, pickedRows, refusal}
+use Rattle.refusals.specs.Refusals.{refusalTable, pickedRows, refusal}
 use Rattle.refusals.specs.Conditions.{countAbove, boardPicks, largestPicks}
 use Rattle.refusals.proofs.FirstRefusal.{first-kept, first-after}
 use Rattle.refusals.proofs.Conditions.{Accepted, accepted-board, few-points}
@@ -26,8 +26,8 @@ returns : tie.Need-returns
 returns c =
     let a = c .before .before .before .args in
     let b : List ℕ = a .board .now in
-    first-kept (pickedRows table (boardPicks (a .rings) b))
-    (pickedRows table (largestPicks (a .rings) (a .k) (countAbove (a .k) (count 1 b) (count 2 b)) (a .length)))
+    first-kept (pickedRows refusalTable (boardPicks (a .rings) b))
+    (pickedRows refusalTable (largestPicks (a .rings) (a .k) (countAbove (a .k) (count 1 b) (count 2 b)) (a .length)))
     (c .before .of-board .result) (c .if1 .taken) (c .before .of-board .ensures)
 
 stones-above-requires : tie.Need-stones-above-requires
@@ -42,8 +42,8 @@ returns-2 c =
     let a = x .before .before .before .args in
     let b : List ℕ = a .board .now in
     c .of-largest .ensures ∙ ap (λ (t : Bool). refusal (largestPicks (a .rings) (a .k) t (a .length))) (c .before .stones-above .ensures)
-    ∙ sym (first-after (pickedRows table (boardPicks (a .rings) b))
-    (pickedRows table (largestPicks (a .rings) (a .k) (countAbove (a .k) (count 1 b) (count 2 b)) (a .length))) refl (passed-board x))
+    ∙ sym (first-after (pickedRows refusalTable (boardPicks (a .rings) b))
+    (pickedRows refusalTable (largestPicks (a .rings) (a .k) (countAbove (a .k) (count 1 b) (count 2 b)) (a .length))) refl (passed-board x))
 
 pub of-tablebase-spec : {M : Type 1} → statement M
 of-tablebase-spec =

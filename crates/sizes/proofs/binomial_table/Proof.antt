@@ -8,7 +8,7 @@ use lib.Dec.{eqb}
 use lib.ListN.{length, getD, set, replicate, length-set}
 use borrow.Author.Tests.{eqb-true}
 use Rattle.lists.proofs.Table.{every-at, stored-more}
-use Rattle.sizes.specs.Binomial.{binomial}
+use Rattle.sizes.specs.Inner.Binomial.{binomial}
 use Rattle.sizes.proofs.binomial_table.Statement.{statement}
 use Rattle.sizes.proofs.binomial_table.Tie as tie
 

@@ -4,7 +4,7 @@ use Prim.Native.Nat.{_+_, _-_, _/_, _%_}
 use native.Mathlib.Omega.{arith}
 use lib.ListN.{getD}
 use borrow.Author.Needs.{needs}
-use Rattle.sizes.specs.Binomial.{binomial}
+use Rattle.sizes.specs.Inner.Binomial.{binomial}
 use Rattle.sizes.proofs.Binomials.{binomial-small, entry-sum}
 use Rattle.sizes.proofs.pascal.Statement.{statement}
 use Rattle.sizes.proofs.pascal.Tie as tie

@@ -7,7 +7,7 @@ use lib.ListN.{set, length-set}
 use borrow.Author.Needs.{needs}
 use Rattle.lists.proofs.Writing.{writing-none, part-written, last-written}
 use Rattle.text.specs.Text.{decimal}
-use Rattle.text.proofs.Parts.{item-number, item-absent}
+use Rattle.text.proofs.Items.{item-number, item-absent}
 use Rattle.text.proofs.put_item.Statement.{statement}
 use Rattle.text.proofs.put_item.Tie as tie
 

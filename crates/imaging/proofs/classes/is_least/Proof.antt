@@ -7,7 +7,7 @@ use Rattle.board.specs.declared.position.Position.{Position}
 use Rattle.board.specs.Board.{boardOf, OnBoard}
 use Rattle.board.proofs.OneToOne.{mover-set}
 use Rattle.symmetry.specs.Symmetries.{image}
-use Rattle.imaging.specs.Images.{ImageSet, number}
+use Rattle.imaging.specs.Inner.Images.{ImageSet, moverSet}
 use Rattle.imaging.proofs.Assembled.{within-all}
 use Rattle.imaging.proofs.Least.{number-image, NoLower, first-no-lower, no-lower, one-lower}
 use borrow.Author.Needs.{needs}
@@ -57,7 +57,8 @@ loop-again c =
     let a = s .args in
     let p = s .pre in
     let t = i .before .loop-test .taken in
-    λ q w f. below-more (λ (h : ℕ). number (boardOf (8 * a .maps .rings) q) ≤ number (image (a .maps .rings) h (boardOf (8 * a .maps .rings) q))) (x .loop .g)
+    λ q w f. below-more (λ (h : ℕ). moverSet (boardOf (8 * a .maps .rings) q) ≤ moverSet (image (a .maps .rings) h (boardOf (8 * a .maps .rings) q)))
+    (x .loop .g)
     (x .loop .inv q w f)
     (omega (
       arith,

@@ -5,7 +5,7 @@ use native.Mathlib.Omega.{arith}
 use lib.ListN.{length, length-set}
 use Rattle.ranking.specs.Rank.{rank}
 use Rattle.board.specs.Board.{boardOf}
-use Rattle.imaging.specs.Images.{imagesWritten}
+use Rattle.imaging.specs.Inner.Images.{imagesWritten}
 use Rattle.imaging.proofs.OnSets.{image-rank, none-written, one-written}
 use borrow.Author.Needs.{needs}
 use Rattle.imaging.proofs.classes.write_images.Statement.{statement}

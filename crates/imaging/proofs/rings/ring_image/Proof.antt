@@ -1,7 +1,7 @@
 -- `imaging::rings::ring_image` meets its contract. Assumes nothing.
 use mathlib.Core.Path.{sym, subst}
 use Prim.Native.Nat.{ℕ}
-use Rattle.imaging.specs.Images.{RingImage}
+use Rattle.imaging.specs.Inner.Images.{RingImage}
 use Rattle.imaging.proofs.Assembled.{looked-up}
 use borrow.Author.Needs.{needs}
 use Rattle.imaging.proofs.rings.ring_image.Statement.{statement}

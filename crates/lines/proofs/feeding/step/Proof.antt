@@ -6,7 +6,7 @@ use native.Mathlib.Omega.{arith}
 use lib.ListN.{take}
 use lib.Seq.{length-take-le}
 use borrow.Author.Needs.{needs}
-use Rattle.lines.specs.Lines.{ended}
+use Rattle.lines.specs.Lines.{endedLines}
 use Rattle.lines.specs.Answers.{answerOf, answers}
 use Rattle.lines.proofs.Fields.{same-written}
 use Rattle.lines.proofs.Blocks.{byte-ends, byte-kept, answers-one, answers-none}
@@ -36,12 +36,12 @@ returns c =
     let a = s .args in
     let k = take (a .kept) (a .held .now) in
     let f = byte-ends k (a .c) (t .if1 .taken) in
-    let e : answerOf (a .tablebase .now) k ≡ answers (a .tablebase .now) (ended k (a .c ∷ [])) =
+    let e : answerOf (a .tablebase .now) k ≡ answers (a .tablebase .now) (endedLines k (a .c ∷ [])) =
     sym (ap (answers (a .tablebase .now)) (f .0) ∙ answers-one (a .tablebase .now) k) in
     ((s .pre .0 .0, omega arith), (sym (f .1), same-written (a .used) _ (a .out .now) _ e (x .answer-at .ensures)))
 
-keep-requires : tie.Need-keep-requires
-keep-requires c κs = search needs
+keep-byte-requires : tie.Need-keep-byte-requires
+keep-byte-requires c κs = search needs
 
 same-length-3 : tie.Need-same-length-3
 same-length-3 c = search needs
@@ -54,8 +54,8 @@ returns-2 c =
     let a = s .args in
     let k = take (a .kept) (a .held .now) in
     let f = byte-kept k (a .c) (t .if1 .left) in
-    let e : [] ≡ answers (a .tablebase .now) (ended k (a .c ∷ [])) = sym (ap (answers (a .tablebase .now)) (f .0) ∙ answers-none (a .tablebase .now)) in
-    let p = x .keep .ensures in
+    let e : [] ≡ answers (a .tablebase .now) (endedLines k (a .c ∷ [])) = sym (ap (answers (a .tablebase .now)) (f .0) ∙ answers-none (a .tablebase .now)) in
+    let p = x .keep-byte .ensures in
     (p .0, (p .1 ∙ sym (f .1), same-written (a .used) (a .used) (a .out .now) (a .out .now) e (sym (add-zero (a .used)), (omega arith, refl))))
 
 pub step-spec : {M : Type 1} → statement M
@@ -68,6 +68,6 @@ step-spec =
     same-length
     same-length-2
     returns
-    keep-requires
+    keep-byte-requires
     same-length-3
     returns-2)

@@ -3,13 +3,13 @@ use mathlib.Core.Path.{_≡_, subst}
 use Prim.Native.Nat.{ℕ, _-_}
 use native.Mathlib.Omega.{arith}
 use borrow.Author.Tests.{eq-eqb, ne-eqb}
-use Rattle.parts.specs.Finding.{Passed, isAt}
+use Rattle.parts.specs.Inner.Finding.{NoneBefore, isAt}
 use Rattle.parts.proofs.Firsts.{passed-one, first-here, first-none}
 use Rattle.parts.proofs.finding.find.Statement.{statement}
 use Rattle.parts.proofs.finding.find.Tie as tie
 
 abbrev Inv-loop : tie.InvT-loop
-Inv-loop tablebase from end v i₀ i = Passed (isAt v tablebase) from end i
+Inv-loop tablebase from end v i₀ i = NoneBefore (isAt v tablebase) from end i
 
 abbrev μ-loop : tie.MeasureT-loop
 μ-loop tablebase from end v i₀ i = end - i
@@ -45,7 +45,7 @@ returns-2 c =
     let x = c .before in
     let a = x .before .before .before .args in
     let e : x .loop .i ≡ a .end = omega (arith, c .loop-test .left, x .loop .inv .high) in
-    first-none (subst (λ (i : ℕ). Passed (isAt (a .v) (a .tablebase .now)) (a .from) (a .end) i) e (x .loop .inv)) (omega arith)
+    first-none (subst (λ (i : ℕ). NoneBefore (isAt (a .v) (a .tablebase .now)) (a .from) (a .end) i) e (x .loop .inv)) (omega arith)
 
 pub find-spec : {M : Type 1} → statement M
 find-spec =

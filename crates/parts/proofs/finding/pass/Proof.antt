@@ -2,14 +2,14 @@
 use mathlib.Core.Path.{sym, _∙_}
 use Prim.Native.Nat.{_-_}
 use native.Mathlib.Omega.{arith}
-use Rattle.parts.specs.Finding.{Passed, isAt}
+use Rattle.parts.specs.Inner.Finding.{NoneBefore, isAt}
 use Rattle.parts.proofs.Occurs.{occurs-none}
 use Rattle.parts.proofs.Firsts.{passed-none, passed-more}
 use Rattle.parts.proofs.finding.pass.Statement.{statement}
 use Rattle.parts.proofs.finding.pass.Tie as tie
 
 abbrev Inv-loop : tie.InvT-loop
-Inv-loop tablebase from end v i₀ i = Passed (isAt v tablebase) from end i
+Inv-loop tablebase from end v i₀ i = NoneBefore (isAt v tablebase) from end i
 
 abbrev μ-loop : tie.MeasureT-loop
 μ-loop tablebase from end v i₀ i = end - i

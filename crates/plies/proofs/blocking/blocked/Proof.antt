@@ -6,7 +6,7 @@ use Rattle.sets.proofs.Elements.{bit-low}
 use Rattle.sets.proofs.Passing.{Sought, sought-none, sought-more, sought-found, sought-all}
 use Rattle.plies.proofs.Movable.{movable, stone-stuck, stone-free, none-movable}
 use Rattle.plies.proofs.OnPositions.{mover-small}
-use Rattle.plies.proofs.Stones.{mover-fits}
+use Rattle.plies.proofs.StoneMoves.{mover-fits}
 use Rattle.plies.proofs.blocking.blocked.Statement.{statement}
 use Rattle.plies.proofs.blocking.blocked.Tie as tie
 
@@ -28,8 +28,8 @@ loop-holds c = sought-none _ (c .args .position .mover) (mover-fits (c .args .ri
 take-lowest-requires : tie.Need-take-lowest-requires Inv-loop μ-loop
 take-lowest-requires c κs = c .loop-test .taken
 
-targets-requires : tie.Need-targets-requires Inv-loop μ-loop
-targets-requires c κs =
+destinations-requires : tie.Need-destinations-requires Inv-loop μ-loop
+destinations-requires c κs =
     let s = c .before .before .before in
     (s .pre, bit-low 24 (s .args .position .mover) (c .take-lowest .result .lowest) (mover-small (s .args .rings) (s .args .position) (s .pre .placed)) (own c))
 
@@ -42,7 +42,8 @@ returns c =
     let a = s .args in
     none-movable (a .rings) (a .position) (s .pre .placed) true
     (sought-found _ (a .position .mover) (x .loop .left) (l .take-lowest .result .lowest) (l .take-lowest .result .rest) (x .loop .inv) (l .take-lowest .ensures)
-    (stone-free (a .rings) (a .position) (s .pre .placed) (l .take-lowest .result .lowest) (t .targets .result) (t .targets .ensures) (c .if1 .taken)))
+    (stone-free (a .rings) (a .position) (s .pre .placed) (l .take-lowest .result .lowest) (t .destinations .result) (t .destinations .ensures)
+    (c .if1 .taken)))
 
 loop-less : tie.Need-loop-less Inv-loop μ-loop
 loop-less c = c .before .before .take-lowest .ensures .less
@@ -56,7 +57,8 @@ loop-again c =
     let a = s .args in
     sought-more _ (a .position .mover) (x .loop .left) (l .take-lowest .result .lowest) (l .take-lowest .result .rest) (x .loop .inv)
     (l .take-lowest .ensures)
-    (stone-stuck (a .rings) (a .position) (s .pre .placed) (l .take-lowest .result .lowest) (t .targets .result) (t .targets .ensures) (c .if1 .left))
+    (stone-stuck (a .rings) (a .position) (s .pre .placed) (l .take-lowest .result .lowest) (t .destinations .result) (t .destinations .ensures)
+    (c .if1 .left))
 
 returns-2 : tie.Need-returns-2 Inv-loop μ-loop
 returns-2 c =
@@ -73,7 +75,7 @@ blocked-spec =
     μ-loop
     loop-holds
     take-lowest-requires
-    targets-requires
+    destinations-requires
     returns
     loop-less
     loop-again

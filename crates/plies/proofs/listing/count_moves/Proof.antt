@@ -7,16 +7,16 @@ use Rattle.sets.specs.Sets.{bit}
 use Rattle.sets.proofs.Elements.{bit-low}
 use Rattle.sets.proofs.Passing.{Counted, counted-none, counted-more, counted-all}
 use Rattle.board.specs.Board.{boardOf}
-use Rattle.rules.specs.Ply.{targets, removable, stoneMoves}
+use Rattle.rules.specs.Ply.{destinations, removable, stoneMoves}
 use Rattle.plies.proofs.OnPositions.{mover-small}
-use Rattle.plies.proofs.Stones.{targets-vacant, moves-given, stone-given, moves-small, mover-fits}
+use Rattle.plies.proofs.StoneMoves.{destinations-vacant, moves-given, stone-given, moves-small, mover-fits}
 use Rattle.plies.proofs.listing.count_moves.Statement.{statement}
 use Rattle.plies.proofs.listing.count_moves.Tie as tie
 
 abbrev Inv-loop : tie.InvT-loop
 Inv-loop rings masks position n₀ left₀ n left =
     Counted (λ from. stoneMoves (λ m b. removable m b) rings (boardOf (8 * rings) position) from
-    (targets rings (boardOf (8 * rings) position) from)) (position .mover) n left
+    (destinations rings (boardOf (8 * rings) position) from)) (position .mover) n left
 
 abbrev μ-loop : tie.MeasureT-loop
 μ-loop rings masks position n₀ left₀ n left = left
@@ -33,8 +33,8 @@ loop-holds c = counted-none _ (c .args .position .mover) (mover-fits (c .args .r
 take-lowest-requires : tie.Need-take-lowest-requires Inv-loop μ-loop
 take-lowest-requires c κs = c .loop-test .taken
 
-targets-requires : tie.Need-targets-requires Inv-loop μ-loop
-targets-requires c κs =
+destinations-requires : tie.Need-destinations-requires Inv-loop μ-loop
+destinations-requires c κs =
     let s = c .before .before .before in (
       s .pre,
       bit-low 24 (s .args .position .mover) (c .take-lowest .result .lowest)
@@ -45,8 +45,8 @@ count-stone-requires : tie.Need-count-stone-requires Inv-loop μ-loop
 count-stone-requires c κs =
     let s = c .before .before .before .before in (
       s .pre,
-      λ to e. targets-vacant (s .args .rings) (s .args .position) (s .pre .placed) (c .before .take-lowest .result .lowest) (own (c .before)) to
-          (sym (ap (λ (x : ℕ). bit x to) (c .targets .ensures)) ∙ e),
+      λ to e. destinations-vacant (s .args .rings) (s .args .position) (s .pre .placed) (c .before .take-lowest .result .lowest) (own (c .before)) to
+          (sym (ap (λ (x : ℕ). bit x to) (c .destinations .ensures)) ∙ e),
     )
 
 add-n : tie.Need-add-n Inv-loop μ-loop
@@ -65,7 +65,7 @@ loop-again c =
     counted-more _ (s .args .position .mover) (x .loop .n) (x .loop .left) (t .before .take-lowest .result .lowest) (t .before .take-lowest .result .rest) (c .count-stone .result)
     (x .loop .inv) (t .before .take-lowest .ensures)
     (c .count-stone .ensures .0 ∙ ap length (stone-given (s .args .rings) (s .args .position) (s .pre .placed) (t .before .take-lowest .result .lowest)
-    (t .targets .result) (t .targets .ensures)))
+    (t .destinations .result) (t .destinations .ensures)))
 
 returns : tie.Need-returns Inv-loop μ-loop
 returns c =
@@ -82,7 +82,7 @@ count-moves-spec =
     μ-loop
     loop-holds
     take-lowest-requires
-    targets-requires
+    destinations-requires
     count-stone-requires
     add-n
     loop-less

@@ -9,7 +9,7 @@ use Rattle.sets.proofs.Laws.{members-le}
 use Rattle.sets.proofs.Passing.{Counted, counted-none, counted-more, counted-all}
 use Rattle.board.specs.Board.{boardOf}
 use Rattle.rules.specs.Ply.{slide, removable, removals, moveNumber, slideMoves}
-use Rattle.plies.proofs.Stones.{count-removals, stone-le}
+use Rattle.plies.proofs.StoneMoves.{count-removals, stone-le}
 use Rattle.plies.proofs.listing.count_stone.Statement.{statement}
 use Rattle.plies.proofs.listing.count_stone.Tie as tie
 

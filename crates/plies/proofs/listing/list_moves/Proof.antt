@@ -9,16 +9,16 @@ use Rattle.sets.specs.Sets.{bit, elements}
 use Rattle.sets.proofs.Elements.{bit-low}
 use Rattle.sets.proofs.Passing.{Written, written-none, written-more, written-all, written-room}
 use Rattle.board.specs.Board.{boardOf}
-use Rattle.rules.specs.Ply.{targets, removable, stoneMoves}
+use Rattle.rules.specs.Ply.{destinations, removable, stoneMoves}
 use Rattle.plies.proofs.OnPositions.{mover-small}
-use Rattle.plies.proofs.Stones.{targets-vacant, fromStone, moves-given, stone-given, mover-fits}
+use Rattle.plies.proofs.StoneMoves.{destinations-vacant, fromStone, moves-given, stone-given, mover-fits}
 use Rattle.plies.proofs.listing.list_moves.Statement.{statement}
 use Rattle.plies.proofs.listing.list_moves.Tie as tie
 
 abbrev Inv-loop : tie.InvT-loop
 Inv-loop rings masks position list₀ k₀ left₀ list k left =
     Written (λ from. stoneMoves (λ m b. removable m b) rings (boardOf (8 * rings) position) from
-    (targets rings (boardOf (8 * rings) position) from)) list₀ 0 (position .mover) list k left
+    (destinations rings (boardOf (8 * rings) position) from)) list₀ 0 (position .mover) list k left
 
 abbrev μ-loop : tie.MeasureT-loop
 μ-loop rings masks position list₀ k₀ left₀ list k left = left
@@ -29,16 +29,17 @@ own c =
     let x = c .before .before in
     x .loop .inv .among (c .take-lowest .result .lowest) (c .take-lowest .ensures .member)
 
--- its moves are those to the set of its targets
-found : (c : tie.After-targets Inv-loop μ-loop)
+-- its moves are those to the set of its destinations
+found : (c : tie.After-destinations Inv-loop μ-loop)
     → stoneMoves (λ m b. removable m b) (c .before .before .before .before .before .args .rings)
     (boardOf (8 * c .before .before .before .before .before .args .rings) (c .before .before .before .before .before .args .position))
-    (c .before .take-lowest .result .lowest) (elements 32 (c .targets .result))
+    (c .before .take-lowest .result .lowest) (elements 32 (c .destinations .result))
     ≡ fromStone (c .before .before .before .before .before .args .rings) (c .before .before .before .before .before .args .position)
     (c .before .before .before .before .before .pre .0 .placed) (c .before .take-lowest .result .lowest)
 found c =
     let s = c .before .before .before .before .before in
-    stone-given (s .args .rings) (s .args .position) (s .pre .0 .placed) (c .before .take-lowest .result .lowest) (c .targets .result) (c .targets .ensures)
+    stone-given (s .args .rings) (s .args .position) (s .pre .0 .placed) (c .before .take-lowest .result .lowest) (c .destinations .result)
+    (c .destinations .ensures)
 
 loop-holds : tie.Need-loop-holds Inv-loop μ-loop
 loop-holds c =
@@ -48,8 +49,8 @@ loop-holds c =
 take-lowest-requires : tie.Need-take-lowest-requires Inv-loop μ-loop
 take-lowest-requires c κs = c .loop-test .taken
 
-targets-requires : tie.Need-targets-requires Inv-loop μ-loop
-targets-requires c κs =
+destinations-requires : tie.Need-destinations-requires Inv-loop μ-loop
+destinations-requires c κs =
     let s = c .before .before .before .before in (
       s .pre .0,
       bit-low 24 (s .args .position .mover) (c .take-lowest .result .lowest)
@@ -66,8 +67,8 @@ list-stone-requires c κs =
     let rest : ℕ = t .before .take-lowest .result .rest in (
       s .pre .0,
       (
-        λ to e. targets-vacant (a .rings) (a .position) (s .pre .0 .placed) from (own (t .before)) to
-            (sym (ap (λ (y : ℕ). bit y to) (t .targets .ensures)) ∙ e),
+        λ to e. destinations-vacant (a .rings) (a .position) (s .pre .0 .placed) from (own (t .before)) to
+            (sym (ap (λ (y : ℕ). bit y to) (t .destinations .ensures)) ∙ e),
         omega (
           arith,
           ap length (found t),
@@ -112,7 +113,7 @@ list-moves-spec =
     μ-loop
     loop-holds
     take-lowest-requires
-    targets-requires
+    destinations-requires
     list-stone-requires
     loop-less
     loop-again

@@ -9,9 +9,9 @@ use Rattle.sets.specs.Sets.{elements}
 use Rattle.sets.proofs.Passing.{Written, written-none, written-more, written-all, written-room}
 use Rattle.board.specs.Board.{boardOf}
 use Rattle.rules.specs.Ply.{slide, removable, slideMoves}
-use Rattle.plies.specs.Positions.{Slide}
+use Rattle.plies.specs.Inner.Positions.{Slide}
 use Rattle.plies.proofs.OnPositions.{from-low}
-use Rattle.plies.proofs.Stones.{elements-removals}
+use Rattle.plies.proofs.StoneMoves.{elements-removals}
 use Rattle.plies.proofs.listing.list_stone.Statement.{statement}
 use Rattle.plies.proofs.listing.list_stone.Tie as tie
 

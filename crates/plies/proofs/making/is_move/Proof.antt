@@ -9,9 +9,9 @@ use Rattle.lists.proofs.Tests.{untrue, same-test}
 use Rattle.sets.specs.Sets.{bit, setFrom}
 use Rattle.sets.proofs.Elements.{bit-low}
 use Rattle.board.specs.Board.{boardOf}
-use Rattle.rules.specs.Ply.{targets}
+use Rattle.rules.specs.Ply.{destinations}
 use Rattle.plies.proofs.OnPositions.{mover-small}
-use Rattle.plies.proofs.Stones.{targets-vacant}
+use Rattle.plies.proofs.StoneMoves.{destinations-vacant}
 use Rattle.plies.proofs.Numbers.{from-listed, to-listed, removed-listed, all-listed}
 use borrow.Author.Needs.{needs}
 use Rattle.plies.proofs.making.is_move.Statement.{statement}
@@ -24,13 +24,14 @@ own c = let h = c .before .before .before in eqb-true _ 1 (sym (h .before .has .
 
 -- and may go there
 reached : (c : tie.Then3)
-    → bit (setFrom (targets (c .before .before .before .before .before .before .args .rings)
+    → bit (setFrom (destinations (c .before .before .before .before .before .before .args .rings)
     (boardOf (8 * c .before .before .before .before .before .before .args .rings) (c .before .before .before .before .before .before .args .position))
     (c .before .before .before .before .before .before .args .number / 1024)))
     (c .before .before .before .before .before .before .args .number / 32 % 32) ≡ 1
 reached c =
     let a = c .before .before .before .before .before .before .args in
-    eqb-true _ 1 (sym (c .before .has2 .ensures ∙ ap (λ (x : ℕ). eqb (bit x (a .number / 32 % 32)) 1) (c .before .before .targets .ensures)) ∙ c .if3 .taken)
+    eqb-true _ 1 (sym (c .before .has2 .ensures ∙ ap (λ (x : ℕ). eqb (bit x (a .number / 32 % 32)) 1) (c .before .before .destinations .ensures))
+    ∙ c .if3 .taken)
 
 returns : tie.Need-returns
 returns c =
@@ -42,8 +43,8 @@ returns c =
 has-requires : tie.Need-has-requires
 has-requires c κs = search needs
 
-targets-requires : tie.Need-targets-requires
-targets-requires c κs = search needs
+destinations-requires : tie.Need-destinations-requires
+destinations-requires c κs = search needs
 
 has-requires-2 : tie.Need-has-requires-2
 has-requires-2 c κs = search needs
@@ -52,7 +53,7 @@ removals-requires : tie.Need-removals-requires
 removals-requires c κs =
     let s = c .before .before .before .before .before .before in
     let a = s .args in
-    (s .pre, targets-vacant (a .rings) (a .position) (s .pre .placed) (a .number / 1024) (own c) (a .number / 32 % 32) (reached c))
+    (s .pre, destinations-vacant (a .rings) (a .position) (s .pre .placed) (a .number / 1024) (own c) (a .number / 32 % 32) (reached c))
 
 has-requires-3 : tie.Need-has-requires-3
 has-requires-3 c κs = search needs
@@ -71,7 +72,7 @@ returns-3 c =
     let s = c .before .before .before .before .before .before in
     let a = s .args in
     untrue _ (λ e. true≢false (sym (eq-eqb _ 1 (to-listed (a .rings) (a .position) (s .pre .placed) (a .number) e))
-    ∙ ap (λ (x : ℕ). eqb (bit x (a .number / 32 % 32)) 1) (sym (c .before .before .targets .ensures)) ∙ sym (c .before .has2 .ensures) ∙ c .if3 .left))
+    ∙ ap (λ (x : ℕ). eqb (bit x (a .number / 32 % 32)) 1) (sym (c .before .before .destinations .ensures)) ∙ sym (c .before .has2 .ensures) ∙ c .if3 .left))
 
 returns-4 : tie.Need-returns-4
 returns-4 c =
@@ -86,7 +87,7 @@ is-move-spec =
     (tie.spec
     returns
     has-requires
-    targets-requires
+    destinations-requires
     has-requires-2
     removals-requires
     has-requires-3

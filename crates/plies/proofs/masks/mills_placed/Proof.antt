@@ -3,7 +3,7 @@ use mathlib.Core.Path.{_≡_, refl, ap, _∙_}
 use Prim.Native.Nat.{ℕ, suc, _+_, _-_, _≤_}
 use native.Mathlib.Omega.{arith}
 use lib.ListN.{replicate}
-use Rattle.plies.specs.Placing.{millPlaced, millsPlaced}
+use Rattle.plies.specs.Inner.Placing.{millPlaced, millsPlaced}
 use borrow.Author.Needs.{needs}
 use Rattle.plies.proofs.masks.mills_placed.Statement.{statement}
 use Rattle.plies.proofs.masks.mills_placed.Tie as tie

@@ -7,7 +7,7 @@ use lib.Dec.{eqb}
 use lib.ListN.{getD}
 use Rattle.board.specs.Board.{digit}
 use Rattle.board.proofs.Sides.{digit-lt}
-use Rattle.plies.specs.Placing.{placed}
+use Rattle.plies.specs.Inner.Placing.{placed}
 use borrow.Author.Needs.{needs}
 use Rattle.plies.proofs.masks.place.Statement.{statement}
 use Rattle.plies.proofs.masks.place.Tie as tie

@@ -3,7 +3,7 @@ use mathlib.Core.Path.{refl, ap₂, _∙_}
 use Prim.Native.Nat.{ℕ}
 use native.Mathlib.Omega.{arith}
 use Rattle.board.proofs.Geometry.{mill-points}
-use Rattle.plies.specs.Placing.{placed, millPlaced}
+use Rattle.plies.specs.Inner.Placing.{placed, millPlaced}
 use borrow.Author.Needs.{needs}
 use Rattle.plies.proofs.masks.place_mill.Statement.{statement}
 use Rattle.plies.proofs.masks.place_mill.Tie as tie

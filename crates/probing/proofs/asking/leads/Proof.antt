@@ -1,6 +1,6 @@
 -- `probing::asking::leads` meets its contract. Assumes nothing.
 use mathlib.Core.Path.{ap, _∙_}
-use Rattle.probing.specs.Probes.{asked}
+use Rattle.probing.specs.Inner.Probes.{asked}
 use borrow.Author.Needs.{needs}
 use Rattle.probing.proofs.asking.leads.Statement.{statement}
 use Rattle.probing.proofs.asking.leads.Tie as tie

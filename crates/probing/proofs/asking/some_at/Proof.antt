@@ -14,8 +14,8 @@ use Rattle.ranking.specs.Rank.{rank}
 use Rattle.ranking.proofs.Inverse.{rank-low}
 use Rattle.rules.specs.Ply.{listedMoves, afterPly}
 use Rattle.plies.proofs.After.{after-leads}
-use Rattle.probing.specs.Probes.{asked}
-use Rattle.probing.specs.Questions.{answers}
+use Rattle.probing.specs.Inner.Probes.{asked}
+use Rattle.probing.specs.Inner.Questions.{entryAsked}
 use Rattle.probing.proofs.Reading.{probe-same}
 use Rattle.probing.proofs.Jumps.{removes-none, any-one}
 use borrow.Author.Needs.{needs}
@@ -78,7 +78,7 @@ returns c =
     let a = s .args in
     let q = a .question in
     let b : List ℕ = boardOf (8 * a .rings) (a .position) in
-    let f : ℕ → Bool = λ p. answers (a .tablebase .now) q b (afterPly b (a .jump .slide + p)) in
+    let f : ℕ → Bool = λ p. entryAsked (a .tablebase .now) q b (afterPly b (a .jump .slide + p)) in
     c .asked .ensures
     ∙ ap (asked (q .low) (q .high)) (ap (λ (k : ℕ). getD (a .tablebase .now) (q .starts .same + k) 0) (ranked r)
     ∙ sym (probe-same (a .tablebase .now) (q .starts .same) (q .starts .fewer) (count 2 b) (afterPly b (a .jump .slide + 31)) (s .pre .1 .1 .stays (listed (r .before)))))

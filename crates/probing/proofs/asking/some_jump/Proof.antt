@@ -1,4 +1,4 @@
--- `probing::asking::some_jump` meets its contract. The invariant: nothing is found yet, and the walk has not passed the targets left. Assumes nothing.
+-- `probing::asking::some_jump` meets its contract. The invariant: nothing is found yet, and the walk has not passed the destinations left. Assumes nothing.
 use mathlib.Core.List.{List}
 use mathlib.Core.Path.{_≡_, refl, sym, ap, _∙_}
 use mathlib.Core.Bool.{true}
@@ -10,20 +10,20 @@ use Rattle.sets.proofs.Least.{lowest-least}
 use Rattle.sets.proofs.Elements.{lowest-member}
 use Rattle.sets.proofs.Passing.{Sought, sought-none, sought-more, sought-found, sought-all}
 use Rattle.board.specs.Board.{boardOf}
-use Rattle.ranking.specs.Inserting.{Inserting}
-use Rattle.rules.specs.Ply.{targets, removable, slideMoves, afterPly}
-use Rattle.plies.specs.Positions.{Slide}
+use Rattle.ranking.specs.Inner.Inserting.{Inserting}
+use Rattle.rules.specs.Ply.{destinations, removable, slideMoves, afterPly}
+use Rattle.plies.specs.Inner.Positions.{Slide}
 use Rattle.plies.proofs.OnPositions.{from-low}
-use Rattle.plies.proofs.Stones.{targets-fit, targets-vacant}
+use Rattle.plies.proofs.StoneMoves.{destinations-fit, destinations-vacant}
 use Rattle.plies.proofs.SomeMove.{some-slide, some-stone}
-use Rattle.probing.specs.Questions.{answers}
+use Rattle.probing.specs.Inner.Questions.{entryAsked}
 use Rattle.probing.proofs.Jumps.{removing, lifted-placed, lifted-vacant, jumping}
 use Rattle.probing.proofs.asking.some_jump.Statement.{statement}
 use Rattle.probing.proofs.asking.some_jump.Tie as tie
 
 abbrev Inv-loop : tie.InvT-loop
 Inv-loop tablebase binomials masks rings question position stone lifted walk₀ left₀ walk left =
-    Sought (λ to. any (λ m. answers tablebase question (boardOf (8 * rings) position) (afterPly (boardOf (8 * rings) position) m))
+    Sought (λ to. any (λ m. entryAsked tablebase question (boardOf (8 * rings) position) (afterPly (boardOf (8 * rings) position) m))
     (slideMoves (λ n b. removable n b) rings (boardOf (8 * rings) position) (stone .from) to)) (stone .tos) left
     × Inserting (boardOf (8 * rings) lifted) true walk
     × ((q : ℕ) → bit left q ≡ 1 → walk .at ≤ q)
@@ -38,17 +38,17 @@ module _ (s : tie.Start Inv-loop μ-loop) where
   fits : s .args .stone .tos < 2 ^ 32
   fits =
       let a = s .args in
-      omega (arith, s .pre .1 .0 .tos, targets-fit (a .rings) (s .pre .0 .placed .small) (boardOf (8 * a .rings) (a .position)) (a .stone .from))
+      omega (arith, s .pre .1 .0 .tos, destinations-fit (a .rings) (s .pre .0 .placed .small) (boardOf (8 * a .rings) (a .position)) (a .stone .from))
 
-  -- a point of the set is a target
-  target : (to : ℕ) → bit (s .args .stone .tos) to ≡ 1
-      → bit (setFrom (targets (s .args .rings) (boardOf (8 * s .args .rings) (s .args .position)) (s .args .stone .from))) to ≡ 1
-  target to e = sym (ap (λ (k : ℕ). bit k to) (s .pre .1 .0 .tos)) ∙ e
+  -- a point of the set is a destination
+  destination : (to : ℕ) → bit (s .args .stone .tos) to ≡ 1
+      → bit (setFrom (destinations (s .args .rings) (boardOf (8 * s .args .rings) (s .args .position)) (s .args .stone .from))) to ≡ 1
+  destination to e = sym (ap (λ (k : ℕ). bit k to) (s .pre .1 .0 .tos)) ∙ e
 
   slides : (to : ℕ) → bit (s .args .stone .tos) to ≡ 1 → Slide (s .args .rings) (s .args .position) (s .args .stone .from) to
   slides to e =
       let a = s .args in
-      targets-vacant (a .rings) (a .position) (s .pre .0 .placed) (a .stone .from) (s .pre .1 .0 .own) to (target to e)
+      destinations-vacant (a .rings) (a .position) (s .pre .0 .placed) (a .stone .from) (s .pre .1 .0 .own) to (destination to e)
 
   -- the first
   first : (to : ℕ) → to ≡ lowest (s .args .stone .tos) → bit (s .args .stone .tos) to ≡ 1
@@ -149,7 +149,7 @@ some-at-requires c κs =
     let e = c .slide-number .ensures in (
       s .pre .0,
       (
-        removing (a .rings) (a .position) p (a .stone .from) to own (target s to (among l)) (low s to (among l)) (r .removals .result)
+        removing (a .rings) (a .position) p (a .stone .from) to own (destination s to (among l)) (low s to (among l)) (r .removals .result)
             (r .removals .ensures) (c .slide-number .result) e,
         jumping (a .rings) (a .position) p (a .stone .from) (w .without .result) own (w .without .ensures) to (slides s to (among l)) _ refl
             (g .go-to .ensures .0) (g .go-to .ensures .1) e,
@@ -159,7 +159,7 @@ some-at-requires c κs =
 -- what is found of the moves to that point
 found : (c : tie.After-some-at Inv-loop μ-loop)
     → c .some-at .result
-    ≡ any (λ m. answers (c .before .before .before .before .before .before .before .before .before .before .before .args .tablebase .now)
+    ≡ any (λ m. entryAsked (c .before .before .before .before .before .before .before .before .before .before .before .args .tablebase .now)
     (c .before .before .before .before .before .before .before .before .before .before .before .args .question)
     (boardOf (8 * c .before .before .before .before .before .before .before .before .before .before .before .args .rings)
     (c .before .before .before .before .before .before .before .before .before .before .before .args .position))
@@ -176,7 +176,7 @@ found c =
     let a = s .args in
     let b : List ℕ = boardOf (8 * a .rings) (a .position) in
     c .some-at .ensures
-    ∙ ap (λ (n : ℕ). any (λ p. answers (a .tablebase .now) (a .question) b (afterPly b (n + p))) (elements 32 (r .removals .result)))
+    ∙ ap (λ (n : ℕ). any (λ p. entryAsked (a .tablebase .now) (a .question) b (afterPly b (n + p))) (elements 32 (r .removals .result)))
     (c .before .slide-number .ensures)
     ∙ some-slide (a .rings) (a .position) (s .pre .0 .placed) _ (a .stone .from) (l .take-lowest .result .lowest) (r .removals .result) (r .removals .ensures)
 

@@ -5,13 +5,13 @@ use native.Mathlib.Omega.{arith}
 use Rattle.sets.proofs.Passing.{Sought, sought-none, sought-more, sought-found, sought-all}
 use Rattle.board.specs.Board.{boardOf}
 use Rattle.rules.specs.Ply.{afterPly}
-use Rattle.probing.specs.Questions.{answers}
+use Rattle.probing.specs.Inner.Questions.{entryAsked}
 use Rattle.probing.proofs.asking.some_removal.Statement.{statement}
 use Rattle.probing.proofs.asking.some_removal.Tie as tie
 
 abbrev Inv-loop : tie.InvT-loop
 Inv-loop tablebase binomials rings question position slide removals left₀ left =
-    Sought (λ p. answers tablebase question (boardOf (8 * rings) position) (afterPly (boardOf (8 * rings) position) (slide + p))) removals left
+    Sought (λ p. entryAsked tablebase question (boardOf (8 * rings) position) (afterPly (boardOf (8 * rings) position) (slide + p))) removals left
 
 abbrev μ-loop : tie.MeasureT-loop
 μ-loop tablebase binomials rings question position slide removals left₀ left = left

@@ -7,30 +7,30 @@ use Rattle.lists.specs.Lists.{any}
 use Rattle.sets.specs.Sets.{bit, elements, setFrom}
 use Rattle.sets.proofs.Passing.{Sought, sought-none, sought-more, sought-found, sought-all}
 use Rattle.board.specs.Board.{boardOf}
-use Rattle.rules.specs.Ply.{targets, removable, slideMoves, afterPly}
-use Rattle.plies.specs.Positions.{Slide}
+use Rattle.rules.specs.Ply.{destinations, removable, slideMoves, afterPly}
+use Rattle.plies.specs.Inner.Positions.{Slide}
 use Rattle.plies.proofs.OnPositions.{from-low}
-use Rattle.plies.proofs.Stones.{targets-fit, targets-vacant}
+use Rattle.plies.proofs.StoneMoves.{destinations-fit, destinations-vacant}
 use Rattle.plies.proofs.SomeMove.{some-slide, some-stone}
-use Rattle.probing.specs.Questions.{answers}
+use Rattle.probing.specs.Inner.Questions.{entryAsked}
 use Rattle.probing.proofs.Jumps.{removing}
 use Rattle.probing.proofs.asking.some_slide.Statement.{statement}
 use Rattle.probing.proofs.asking.some_slide.Tie as tie
 
 abbrev Inv-loop : tie.InvT-loop
 Inv-loop tablebase binomials masks rings question position stone left₀ left =
-    Sought (λ to. any (λ m. answers tablebase question (boardOf (8 * rings) position) (afterPly (boardOf (8 * rings) position) m))
+    Sought (λ to. any (λ m. entryAsked tablebase question (boardOf (8 * rings) position) (afterPly (boardOf (8 * rings) position) m))
     (slideMoves (λ n b. removable n b) rings (boardOf (8 * rings) position) (stone .from) to)) (stone .tos) left
 
 abbrev μ-loop : tie.MeasureT-loop
 μ-loop tablebase binomials masks rings question position stone left₀ left = left
 
--- it is one of the targets
-target : (c : tie.After-take-lowest Inv-loop μ-loop)
-    → bit (setFrom (targets (c .before .before .before .before .args .rings)
+-- it is one of the destinations
+destination : (c : tie.After-take-lowest Inv-loop μ-loop)
+    → bit (setFrom (destinations (c .before .before .before .before .args .rings)
     (boardOf (8 * c .before .before .before .before .args .rings) (c .before .before .before .before .args .position))
     (c .before .before .before .before .args .stone .from))) (c .take-lowest .result .lowest) ≡ 1
-target c =
+destination c =
     let x = c .before .before in
     let to : ℕ = c .take-lowest .result .lowest in
     sym (ap (λ (s : ℕ). bit s to) (x .before .before .pre .1 .tos)) ∙ x .loop .inv .among to (c .take-lowest .ensures .member)
@@ -40,7 +40,8 @@ slides : (c : tie.After-take-lowest Inv-loop μ-loop)
     (c .before .before .before .before .args .stone .from) (c .take-lowest .result .lowest)
 slides c =
     let s = c .before .before .before .before in
-    targets-vacant (s .args .rings) (s .args .position) (s .pre .0 .placed) (s .args .stone .from) (s .pre .1 .own) (c .take-lowest .result .lowest) (target c)
+    destinations-vacant (s .args .rings) (s .args .position) (s .pre .0 .placed) (s .args .stone .from) (s .pre .1 .own)
+    (c .take-lowest .result .lowest) (destination c)
 
 -- both points are below 24
 low : (c : tie.After-removals Inv-loop μ-loop)
@@ -53,7 +54,8 @@ low c =
 -- what is found of the moves to that point
 found : (c : tie.After-some-removal Inv-loop μ-loop)
     → c .some-removal .result
-    ≡ any (λ m. answers (c .before .before .before .before .before .before .before .args .tablebase .now) (c .before .before .before .before .before .before .before .args .question)
+    ≡ any (λ m. entryAsked (c .before .before .before .before .before .before .before .args .tablebase .now)
+    (c .before .before .before .before .before .before .before .args .question)
     (boardOf (8 * c .before .before .before .before .before .before .before .args .rings) (c .before .before .before .before .before .before .before .args .position))
     (afterPly (boardOf (8 * c .before .before .before .before .before .before .before .args .rings) (c .before .before .before .before .before .before .before .args .position)) m))
     (slideMoves (λ n b. removable n b) (c .before .before .before .before .before .before .before .args .rings)
@@ -65,7 +67,7 @@ found c =
     let a = s .args in
     let b : List ℕ = boardOf (8 * a .rings) (a .position) in
     c .some-removal .ensures
-    ∙ ap (λ (n : ℕ). any (λ p. answers (a .tablebase .now) (a .question) b (afterPly b (n + p))) (elements 32 (r .removals .result)))
+    ∙ ap (λ (n : ℕ). any (λ p. entryAsked (a .tablebase .now) (a .question) b (afterPly b (n + p))) (elements 32 (r .removals .result)))
     (c .before .slide-number .ensures)
     ∙ some-slide (a .rings) (a .position) (s .pre .0 .placed) _ (a .stone .from) (r .before .take-lowest .result .lowest) (r .removals .result)
     (r .removals .ensures)
@@ -74,7 +76,12 @@ loop-holds : tie.Need-loop-holds Inv-loop μ-loop
 loop-holds c =
     let s = c .before in
     let a = s .args in
-    sought-none _ (a .stone .tos) (omega (arith, s .pre .1 .tos, targets-fit (a .rings) (s .pre .0 .placed .small) (boardOf (8 * a .rings) (a .position)) (a .stone .from)))
+    sought-none _ (a .stone .tos) (omega (
+      arith,
+      s .pre .1 .tos,
+      destinations-fit (a .rings) (s .pre .0 .placed .small)
+          (boardOf (8 * a .rings) (a .position)) (a .stone .from),
+    ))
 
 take-lowest-requires : tie.Need-take-lowest-requires Inv-loop μ-loop
 take-lowest-requires c κs = c .loop-test .taken
@@ -94,7 +101,7 @@ some-removal-requires c κs =
     let a = s .args in
     let to : ℕ = r .before .take-lowest .result .lowest in (
       s .pre .0,
-      removing (a .rings) (a .position) (s .pre .0 .placed) (a .stone .from) to (s .pre .1 .own) (target (r .before)) (low r) (r .removals .result)
+      removing (a .rings) (a .position) (s .pre .0 .placed) (a .stone .from) to (s .pre .1 .own) (destination (r .before)) (low r) (r .removals .result)
           (r .removals .ensures) (c .slide-number .result) (c .slide-number .ensures),
     )
 

@@ -6,18 +6,19 @@ use Rattle.sets.specs.Sets.{bit}
 use Rattle.sets.proofs.Elements.{bit-low}
 use Rattle.sets.proofs.Passing.{Sought, sought-none, sought-more, sought-found, sought-all}
 use Rattle.board.specs.Board.{boardOf}
-use Rattle.rules.specs.Ply.{targets, listedFrom, afterPly}
+use Rattle.rules.specs.Ply.{destinations, afterPly}
+use Rattle.plies.specs.Inner.Listing.{listedFrom}
 use Rattle.plies.proofs.OnPositions.{mover-small}
-use Rattle.plies.proofs.Stones.{mover-fits}
+use Rattle.plies.proofs.StoneMoves.{mover-fits}
 use Rattle.plies.proofs.SomeMove.{some-move, some-successor-is}
-use Rattle.probing.specs.Questions.{answers}
+use Rattle.probing.specs.Inner.Questions.{entryAsked}
 use Rattle.probing.proofs.asking.some_successor.Statement.{statement}
 use Rattle.probing.proofs.asking.some_successor.Tie as tie
 
 abbrev Inv-loop : tie.InvT-loop
 Inv-loop tablebase binomials masks rings question position left₀ left =
-    Sought (λ from. any (λ m. answers tablebase question (boardOf (8 * rings) position) (afterPly (boardOf (8 * rings) position) m))
-    (listedFrom rings (boardOf (8 * rings) position) from (targets rings (boardOf (8 * rings) position) from))) (position .mover) left
+    Sought (λ from. any (λ m. entryAsked tablebase question (boardOf (8 * rings) position) (afterPly (boardOf (8 * rings) position) m))
+    (listedFrom rings (boardOf (8 * rings) position) from (destinations rings (boardOf (8 * rings) position) from))) (position .mover) left
 
 abbrev μ-loop : tie.MeasureT-loop
 μ-loop tablebase binomials masks rings question position left₀ left = left
@@ -36,18 +37,18 @@ loop-holds c =
 take-lowest-requires : tie.Need-take-lowest-requires Inv-loop μ-loop
 take-lowest-requires c κs = c .loop-test .taken
 
-targets-requires : tie.Need-targets-requires Inv-loop μ-loop
-targets-requires c κs =
+destinations-requires : tie.Need-destinations-requires Inv-loop μ-loop
+destinations-requires c κs =
     let s = c .before .before .before .before in (
       record { masks = s .pre .1; placed = s .pre .0 .placed },
       bit-low 24 (s .args .position .mover) (c .take-lowest .result .lowest)
           (mover-small (s .args .rings) (s .args .position) (s .pre .0 .placed)) (own c),
     )
 
-some-target-requires : tie.Need-some-target-requires Inv-loop μ-loop
-some-target-requires c κs =
+some-destination-requires : tie.Need-some-destination-requires Inv-loop μ-loop
+some-destination-requires c κs =
     let s = c .before .before .before .before .before in
-    (s .pre .0, record { masks = s .pre .1; own = own (c .before); tos = c .targets .ensures })
+    (s .pre .0, record { masks = s .pre .1; own = own (c .before); tos = c .destinations .ensures })
 
 returns : tie.Need-returns Inv-loop μ-loop
 returns c =
@@ -56,7 +57,8 @@ returns c =
     let x = l .before .before in
     let s = x .before .before in
     let a = s .args in
-    sought-found _ (a .position .mover) (x .loop .left) (l .take-lowest .result .lowest) (l .take-lowest .result .rest) (x .loop .inv) (l .take-lowest .ensures) (sym (m .some-target .ensures) ∙ c .if1 .taken)
+    sought-found _ (a .position .mover) (x .loop .left) (l .take-lowest .result .lowest) (l .take-lowest .result .rest) (x .loop .inv)
+    (l .take-lowest .ensures) (sym (m .some-destination .ensures) ∙ c .if1 .taken)
     ∙ some-move (a .rings) (a .position) (s .pre .0 .placed) _ ∙ some-successor-is _ (a .rings) (boardOf (8 * a .rings) (a .position))
 
 loop-less : tie.Need-loop-less Inv-loop μ-loop
@@ -68,7 +70,7 @@ loop-again c =
     let l = m .before .before in
     let x = l .before .before in
     sought-more _ (x .before .before .args .position .mover) (x .loop .left) (l .take-lowest .result .lowest) (l .take-lowest .result .rest) (x .loop .inv)
-    (l .take-lowest .ensures) (sym (m .some-target .ensures) ∙ c .if1 .left)
+    (l .take-lowest .ensures) (sym (m .some-destination .ensures) ∙ c .if1 .left)
 
 returns-2 : tie.Need-returns-2 Inv-loop μ-loop
 returns-2 c =
@@ -86,8 +88,8 @@ some-successor-spec =
     μ-loop
     loop-holds
     take-lowest-requires
-    targets-requires
-    some-target-requires
+    destinations-requires
+    some-destination-requires
     returns
     loop-less
     loop-again

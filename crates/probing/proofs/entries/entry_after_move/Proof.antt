@@ -5,9 +5,9 @@ use native.Mathlib.Omega.{arith}
 use Rattle.board.specs.Board.{count, boardOf}
 use Rattle.board.proofs.OneToOne.{opponent-count}
 use Rattle.rules.specs.Ply.{afterPly}
-use Rattle.plies.specs.Positions.{Placed}
+use Rattle.plies.specs.Inner.Positions.{Placed}
 use Rattle.plies.proofs.After.{after-leads, after-placed, after-board}
-use Rattle.probing.specs.Probes.{probe}
+use Rattle.probing.specs.Inner.Probes.{probe}
 use Rattle.probing.proofs.Reading.{left-of}
 use borrow.Author.Needs.{needs}
 use Rattle.probing.proofs.entries.entry_after_move.Statement.{statement}

@@ -9,8 +9,8 @@ use Rattle.board.specs.Board.{count, boardOf}
 use Rattle.rules.specs.Ply.{removable, successors}
 use Rattle.game.specs.Judgement.{isLost, isWon}
 use Rattle.game.proofs.Entries.{decided-is}
-use Rattle.probing.specs.Probes.{probe}
-use Rattle.probing.proofs.Answers.{some-lost, all-won}
+use Rattle.probing.specs.Inner.Probes.{probe}
+use Rattle.probing.proofs.Asked.{some-lost, all-won}
 use borrow.Author.Needs.{needs}
 use Rattle.probing.proofs.judging.decided.Statement.{statement}
 use Rattle.probing.proofs.judging.decided.Tie as tie

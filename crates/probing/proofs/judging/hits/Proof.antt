@@ -7,8 +7,8 @@ use native.Mathlib.Omega.{arith}
 use Rattle.board.specs.Board.{count, boardOf}
 use Rattle.rules.specs.Ply.{removable, successors}
 use Rattle.game.proofs.Hits.{hit-odd, hit-even}
-use Rattle.probing.specs.Probes.{probe}
-use Rattle.probing.proofs.Answers.{some-before, all-below}
+use Rattle.probing.specs.Inner.Probes.{probe}
+use Rattle.probing.proofs.Asked.{some-before, all-below}
 use borrow.Author.Needs.{needs}
 use Rattle.probing.proofs.judging.hits.Statement.{statement}
 use Rattle.probing.proofs.judging.hits.Tie as tie

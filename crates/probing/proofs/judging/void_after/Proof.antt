@@ -5,7 +5,7 @@ use Prim.Native.Nat.{ℕ, _*_}
 use native.Mathlib.Omega.{arith}
 use Rattle.board.specs.Board.{count, boardOf}
 use Rattle.rules.specs.Ply.{removable, successors}
-use Rattle.probing.proofs.Answers.{some-void}
+use Rattle.probing.proofs.Asked.{some-void}
 use borrow.Author.Needs.{needs}
 use Rattle.probing.proofs.judging.void_after.Statement.{statement}
 use Rattle.probing.proofs.judging.void_after.Tie as tie

@@ -9,8 +9,8 @@ use Rattle.board.specs.Board.{Values, count, boardOf, OnBoard}
 use Rattle.board.proofs.Sides.{digit-lt, length-board, board-values}
 use Rattle.board.proofs.OneToOne.{mover-set, opponent-set}
 use Rattle.ranking.specs.Rank.{rank}
-use Rattle.ranking.specs.Inserting.{Inserting}
-use Rattle.ranking.proofs.Parts.{count-members}
+use Rattle.ranking.specs.Inner.Inserting.{Inserting}
+use Rattle.ranking.proofs.BoardSets.{count-members}
 use Rattle.ranking.proofs.Puts.{vacant-low, put-stone-on, put-stone-board}
 use Rattle.ranking.proofs.Insertions.{stones-few, inserting-first}
 use borrow.Author.Needs.{needs}

@@ -2,7 +2,7 @@
 use Prim.Native.Nat.{_-_, _≤_}
 use native.Mathlib.Omega.{arith}
 use Rattle.board.specs.Board.{boardOf}
-use Rattle.ranking.specs.Inserting.{Inserting}
+use Rattle.ranking.specs.Inner.Inserting.{Inserting}
 use borrow.Author.Needs.{needs}
 use Rattle.ranking.proofs.inserting.go_to.Statement.{statement}
 use Rattle.ranking.proofs.inserting.go_to.Tie as tie

@@ -6,7 +6,7 @@ use native.Mathlib.Omega.{arith}
 use lib.ListN.{length, getD}
 use Rattle.board.specs.Board.{Values, digit, boardOf}
 use Rattle.board.proofs.Sides.{digit-lt, length-board, board-values}
-use Rattle.ranking.specs.Inserting.{Inserting}
+use Rattle.ranking.specs.Inner.Inserting.{Inserting}
 use Rattle.ranking.proofs.Steps.{below-small}
 use Rattle.ranking.proofs.Digits.{vacant-value, stone-value}
 use Rattle.ranking.proofs.Insertions.{Low, inserting-low, passed-vacant, stone-room, passed-stone}

@@ -3,7 +3,7 @@ use mathlib.Core.Path.{sym, ap, _∙_}
 use mathlib.Core.Bool.{Bool}
 use Prim.Native.Nat.{ℕ}
 use Rattle.board.specs.declared.position.Position.{Position}
-use Rattle.ranking.specs.Inserting.{putStone}
+use Rattle.ranking.specs.Inner.Inserting.{putStone}
 use borrow.Author.Needs.{needs}
 use Rattle.ranking.proofs.inserting.put_stone.Statement.{statement}
 use Rattle.ranking.proofs.inserting.put_stone.Tie as tie

@@ -4,9 +4,9 @@ use mathlib.Core.Logic.{inl}
 use Prim.Native.Nat.{ℕ, _-_, _≤_}
 use native.Mathlib.Omega.{arith}
 use Rattle.symmetry.specs.Symmetries.{symmetries}
-use Rattle.invariance.specs.Used.{TableSymmetric}
+use Rattle.invariance.specs.Symmetric.{TableSymmetric}
 use Rattle.invariance.proofs.TrueSymmetric.{one-symmetric}
-use Rattle.comparing.specs.Compared.{Decides}
+use Rattle.comparing.specs.Inner.Compared.{Decides}
 use Rattle.solver.proofs.LowerMaps.{lower-both}
 use borrow.Author.Needs.{needs}
 use Rattle.solver.proofs.given.given_maps.Statement.{statement}

@@ -4,8 +4,8 @@ use Prim.Native.Nat.{ℕ, _-_, _*_, _≤_}
 use native.Mathlib.Omega.{arith}
 use Rattle.layout.proofs.OneToOne.{InRange, end-is, end-within}
 use Rattle.symmetry.specs.Symmetries.{symmetries}
-use Rattle.invariance.specs.Used.{SymmetricFrom, TableSymmetric}
-use Rattle.comparing.specs.Compared.{Decides}
+use Rattle.invariance.specs.Symmetric.{SymmetricFrom, TableSymmetric}
+use Rattle.comparing.specs.Inner.Compared.{Decides}
 use Rattle.solver.proofs.LowerMaps.{decides-same}
 use borrow.Author.Needs.{needs}
 use Rattle.solver.proofs.given.lower_symmetric.Statement.{statement}

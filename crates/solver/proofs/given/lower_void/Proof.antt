@@ -2,7 +2,7 @@
 use mathlib.Core.Path.{sym, ap₂, _∙_}
 use mathlib.Core.Bool.{Bool, _||_}
 use Rattle.outcomes.proofs.Voids.{lower-void}
-use Rattle.solver.proofs.Parts.{turned-pair}
+use Rattle.solver.proofs.PairTables.{turned-pair}
 use Rattle.solver.proofs.NextLevel.{lower-room}
 use Rattle.solver.proofs.LowerVoid.{lower-part-void}
 use lib.ListN.{length}

@@ -2,7 +2,7 @@
 use mathlib.Core.Path.{subst}
 use mathlib.Core.Logic.{inl}
 use native.Mathlib.Omega.{arith}
-use Rattle.solver.specs.Pairs.{Held}
+use Rattle.solver.specs.Inner.Pairs.{Held}
 use Rattle.solver.proofs.PairSteps.{second-held}
 use borrow.Author.Needs.{needs}
 use Rattle.solver.proofs.pairs.beyond.Statement.{statement}

@@ -2,8 +2,8 @@
 use mathlib.Core.Path.{sym, ap, subst, _∙_}
 use Prim.Native.Nat.{ℕ}
 use lib.ListN.{length}
-use Rattle.sweeping.specs.Levels.{Fits}
-use Rattle.imaging.specs.Images.{leastOfClass}
+use Rattle.sweeping.specs.Inner.Levels.{Fits}
+use Rattle.imaging.specs.Inner.Images.{leastOfClass}
 use Rattle.sweeping.proofs.Sought.{level-length}
 use Rattle.solver.proofs.PairSteps.{level-once, level-twice}
 use borrow.Author.Needs.{needs}

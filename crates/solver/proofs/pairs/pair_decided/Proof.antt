@@ -1,7 +1,7 @@
 -- `solver::pairs::pair_decided` meets its contract. Assumes nothing.
 use mathlib.Core.Path.{subst}
 use mathlib.Core.Logic.{inl}
-use Rattle.sweeping.specs.Levels.{Found}
+use Rattle.sweeping.specs.Inner.Levels.{Found}
 use Rattle.solver.proofs.PairSteps.{second-found}
 use borrow.Author.Needs.{needs}
 use Rattle.solver.proofs.pairs.pair_decided.Statement.{statement}

@@ -1,7 +1,7 @@
 -- `solver::pairs::pair_holds` meets its contract. Assumes nothing.
 use mathlib.Core.Path.{subst}
 use mathlib.Core.Logic.{inl, inr}
-use Rattle.solver.specs.Pairs.{Held}
+use Rattle.solver.specs.Inner.Pairs.{Held}
 use Rattle.solver.proofs.PairSteps.{last-held}
 use borrow.Author.Needs.{needs}
 use Rattle.solver.proofs.pairs.pair_holds.Statement.{statement}

@@ -1,7 +1,7 @@
 -- `solver::pairs::pair_least` meets its contract. Assumes nothing.
 use mathlib.Core.Path.{subst, ap₂, _∙_}
 use Prim.Native.Nat.{min}
-use Rattle.solver.specs.Pairs.{PairHeld}
+use Rattle.solver.specs.Inner.Pairs.{PairHeld}
 use Rattle.solver.proofs.PairSteps.{least-of, least-held}
 use borrow.Author.Needs.{needs}
 use Rattle.solver.proofs.pairs.pair_least.Statement.{statement}

@@ -7,15 +7,15 @@ use lib.ListN.{length}
 use Rattle.game.specs.Game.{drawEntry, voidEntry}
 use Rattle.outcomes.specs.Pair.{LowerValid}
 use Rattle.outcomes.specs.Filled.{BothTables, Kept}
-use Rattle.solver.specs.Pairs.{Beyond, PairFound, pairBlocked, pairFilled}
-use Rattle.solver.specs.Solve.{Setting}
-use Rattle.solver.proofs.Parts.{first-lies, second-lies, first-fits, second-fits, first-counted, second-counted, pair-kept}
+use Rattle.solver.specs.Inner.Pairs.{WroteBeyond, PairFound, pairBlocked, pairFilled}
+use Rattle.solver.specs.Inner.Solve.{Setting}
+use Rattle.solver.proofs.PairTables.{first-lies, second-lies, first-fits, second-fits, first-counted, second-counted, pair-kept}
 use Rattle.solver.proofs.States.{ExactBelow, State, state-start}
 use Rattle.solver.proofs.NextLevel.{in-room, setting-now, state-next}
 use Rattle.solver.proofs.PairSteps.{least-void}
-use Rattle.invariance.specs.Used.{LowerSymmetric}
+use Rattle.invariance.specs.Symmetric.{LowerSymmetric}
 use Rattle.invariance.proofs.Groups.{group-of}
-use Rattle.imaging.specs.Images.{number, leastOfClass}
+use Rattle.imaging.specs.Inner.Images.{moverSet, leastOfClass}
 use Rattle.imaging.proofs.Picked.{least-picks}
 use Rattle.solver.proofs.PairClasses.{after-classes}
 use Rattle.solver.proofs.PairStates.{after-blocked, beyond-limit, within-limit}
@@ -46,7 +46,8 @@ state x =
     let a = s .args in
     x .loop .inv (a .tablebase .now) (s .pre .1 .setting) (s .pre .1 .valid) (s .pre .1 .symmetric)
     (x .before .before .before .sweep-pair .ensures
-    ∙ ap (pairBlocked (a .bounds .rings) (a .tables .first) (a .tables .second)) (x .before .before .before .before .before .before .before .fill-pair .ensures))
+    ∙ ap (pairBlocked (a .bounds .rings) (a .tables .first) (a .tables .second))
+    (x .before .before .before .before .before .before .before .fill-tables .ensures))
 
 here : (x : tie.At-loop Inv-loop μ-loop) → Setting (length (x .loop .tablebase)) (entered x .args .bounds .rings) (entered x .args .bounds .k)
     (entered x .args .tables .first .mover) (entered x .args .tables .first .opponent) (entered x .args .tables .first) (entered x .args .tables .second)
@@ -78,7 +79,7 @@ module _ (c : tie.After-level-pair Inv-loop μ-loop) (before : List ℕ)
       let a = entered x .args in
       let g = group-of (a .maps) (entered x .pre .1 .used) in
       after-classes (a .bounds .rings) (a .bounds .k) (a .tables .first .mover) (a .tables .first .opponent) (a .tables .first) (a .tables .second) before s valid (a .maps) g mirrored
-      (leastOfClass (a .bounds .rings) (a .maps)) (least-picks (λ b. number b) (a .bounds .rings) (s .pair .small) (a .maps) g) (x .loop .level)
+      (leastOfClass (a .bounds .rings) (a .maps)) (least-picks (λ b. moverSet b) (a .bounds .rings) (s .pair .small) (a .maps) g) (x .loop .level)
       (state x .0) (c .before .before .loop-test .taken) (a .bounds .limit) (x .loop .tablebase) st (c .level-pair .last .0) (c .level-pair .ensures)
 
 -- the tables are where they were
@@ -93,15 +94,15 @@ there c =
     (levelled c (s .args .tablebase .now) (s .pre .1 .setting) (s .pre .1 .valid) (s .pre .1 .symmetric) (state x .1) .0 .same-length)
     (s .pre .1 .setting)
 
-fill-pair-requires : tie.Need-fill-pair-requires Inv-loop μ-loop
-fill-pair-requires c κs = in-room (c .before .before .pre .1 .setting)
+fill-tables-requires : tie.Need-fill-tables-requires Inv-loop μ-loop
+fill-tables-requires c κs = in-room (c .before .before .pre .1 .setting)
 
 sweep-pair-requires : tie.Need-sweep-pair-requires Inv-loop μ-loop
 sweep-pair-requires c κs =
     let f = c .before .before .before in
     let s = f .before .before .before in
     let a = s .args in
-    let w = setting-now (length (f .fill-pair .last .0)) (ap length (f .fill-pair .ensures)
+    let w = setting-now (length (f .fill-tables .last .0)) (ap length (f .fill-tables .ensures)
     ∙ pair-kept (a .bounds .rings) (a .bounds .k) (a .tables .first .mover) (a .tables .first .opponent) (a .tables .first) (a .tables .second) (a .tablebase .now) (s .pre .1 .setting) drawEntry
     .same-length)
     (s .pre .1 .setting) in
@@ -137,8 +138,8 @@ level-pair-requires c κs =
 beyond-requires : tie.Need-beyond-requires Inv-loop μ-loop
 beyond-requires c κs = in-room (there (c .before .before .before))
 
-fill-pair-requires-2 : tie.Need-fill-pair-requires-2 Inv-loop μ-loop
-fill-pair-requires-2 c κs = in-room (there (c .before .before .before .before .before .before))
+fill-tables-requires-2 : tie.Need-fill-tables-requires-2 Inv-loop μ-loop
+fill-tables-requires-2 c κs = in-room (there (c .before .before .before .before .before .before))
 
 returns : tie.Need-returns Inv-loop μ-loop
 returns c =
@@ -149,12 +150,13 @@ returns c =
     let a = s .args in
     let w = levelled l (a .tablebase .now) (s .pre .1 .setting) (s .pre .1 .valid) (s .pre .1 .symmetric) (state x .1) in
     voided (a .bounds .rings) (a .bounds .k) (a .tables .first .mover) (a .tables .first .opponent) (a .tables .first) (a .tables .second) (a .tablebase .now) (l .level-pair .last .0)
-    (c .before .before .fill-pair2 .last .0) (s .pre .1 .setting) (w .0) (a .bounds .limit) _
+    (c .before .before .fill-tables2 .last .0) (s .pre .1 .setting) (w .0) (a .bounds .limit) _
     (beyond-limit (a .bounds .rings) (a .bounds .k) (a .tables .first .mover) (a .tables .first .opponent) (a .tables .first) (a .tables .second) (a .tablebase .now) (s .pre .1 .setting)
     (s .pre .1 .valid) (a .bounds .limit) (x .loop .level) (state x .0) (l .before .before .loop-test .taken) (x .loop .tablebase) (state x .1)
     (l .level-pair .last .0) (w .1)
-    (subst (Beyond (a .tables .first) (a .tables .second) (a .bounds .limit) (x .loop .level) (l .level-pair .last .0)) (t .if1 .taken) (t .before .beyond .ensures)))
-    (c .before .before .fill-pair2 .ensures)
+    (subst (WroteBeyond (a .tables .first) (a .tables .second) (a .bounds .limit) (x .loop .level) (l .level-pair .last .0)) (t .if1 .taken)
+    (t .before .beyond .ensures)))
+    (c .before .before .fill-tables2 .ensures)
 
 same-length : tie.Need-same-length Inv-loop μ-loop
 same-length c = returns c .kept .same-length
@@ -204,7 +206,8 @@ stepped c before s valid mirrored st =
     (l .before .before .loop-test .taken) (l .level-pair .last .0) (w .0) (w .1)
     (within-limit (a .bounds .rings) (a .bounds .k) (a .tables .first .mover) (a .tables .first .opponent) (a .tables .first) (a .tables .second) before s valid (a .bounds .limit) (x .loop .level) (state x .0)
     (l .before .before .loop-test .taken) (x .loop .tablebase) st (l .level-pair .last .0) (w .1)
-    (subst (Beyond (a .tables .first) (a .tables .second) (a .bounds .limit) (x .loop .level) (l .level-pair .last .0)) (e .if1 .left) (e .before .beyond .ensures)))
+    (subst (WroteBeyond (a .tables .first) (a .tables .second) (a .bounds .limit) (x .loop .level) (l .level-pair .last .0)) (e .if1 .left)
+    (e .before .beyond .ensures)))
     (1 + c .pair-least .result) (omega (arith, c .pair-least .ensures))
 
 loop-less : tie.Need-loop-less Inv-loop μ-loop
@@ -238,8 +241,8 @@ pair-decided-requires c κs =
     let w = here x in
     (s .pre .0, (first-fits w, second-fits w))
 
-fill-pair-requires-3 : tie.Need-fill-pair-requires-3 Inv-loop μ-loop
-fill-pair-requires-3 c κs = in-room (here (c .before .before .before .before .before .before))
+fill-tables-requires-3 : tie.Need-fill-tables-requires-3 Inv-loop μ-loop
+fill-tables-requires-3 c κs = in-room (here (c .before .before .before .before .before .before))
 
 returns-3 : tie.Need-returns-3 Inv-loop μ-loop
 returns-3 c =
@@ -248,12 +251,12 @@ returns-3 c =
     let s = entered x in
     let a = s .args in
     voided (a .bounds .rings) (a .bounds .k) (a .tables .first .mover) (a .tables .first .opponent) (a .tables .first) (a .tables .second) (a .tablebase .now) (x .loop .tablebase)
-    (c .before .before .fill-pair3 .last .0) (s .pre .1 .setting) (state x .1 .kept) (a .bounds .limit) _
+    (c .before .before .fill-tables3 .last .0) (s .pre .1 .setting) (state x .1 .kept) (a .bounds .limit) _
     (one-decided (a .bounds .rings) (a .bounds .k) (a .tables .first .mover) (a .tables .first .opponent) (a .tables .first) (a .tables .second) (a .tablebase .now)
     (s .pre .1 .setting) (s .pre .1 .valid) (a .bounds .limit) (x .loop .level) (x .loop .tablebase) (state x .1)
     (omega (arith, t .before .before .before .before .loop-test .left, s .pre .1 .limit-low)) (omega (arith, t .before .before .before .if2 .left))
     (subst (PairFound (a .bounds .rings) (a .tables .first) (a .tables .second) (x .loop .tablebase)) (t .if3 .taken) (t .before .pair-decided .ensures)))
-    (c .before .before .fill-pair3 .ensures)
+    (c .before .before .fill-tables3 .ensures)
 
 same-length-3 : tie.Need-same-length-3 Inv-loop μ-loop
 same-length-3 c = returns-3 c .kept .same-length
@@ -277,12 +280,12 @@ solve-tables-spec =
     (tie.spec
     Inv-loop
     μ-loop
-    fill-pair-requires
+    fill-tables-requires
     sweep-pair-requires
     loop-holds
     level-pair-requires
     beyond-requires
-    fill-pair-requires-2
+    fill-tables-requires-2
     same-length
     returns
     pair-least-requires
@@ -292,7 +295,7 @@ solve-tables-spec =
     same-length-2
     returns-2
     pair-decided-requires
-    fill-pair-requires-3
+    fill-tables-requires-3
     same-length-3
     returns-3
     same-length-4

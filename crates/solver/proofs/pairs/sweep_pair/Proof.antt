@@ -3,7 +3,7 @@ use mathlib.Core.Path.{sym, ap, subst, _∙_}
 use Prim.Native.Nat.{ℕ, _*_}
 use lib.ListN.{length}
 use Rattle.sizes.specs.Size.{size}
-use Rattle.sweeping.specs.Levels.{Lies}
+use Rattle.sweeping.specs.Inner.Levels.{Lies}
 use Rattle.sweeping.proofs.Blocked.{blocked-lengths}
 use Rattle.solver.proofs.PairSteps.{blocked-once, blocked-twice}
 use borrow.Author.Needs.{needs}

@@ -5,18 +5,18 @@ use Prim.Native.Nat.{ℕ, _+_, _-_, _≤_, _<_}
 use native.Mathlib.Omega.{arith}
 use lib.ListN.{length, getD}
 use Rattle.game.specs.Game.{voidEntry}
-use Rattle.outcomes.specs.Order.{TrueOn, Before}
+use Rattle.outcomes.specs.Inner.Done.{TrueOn, DoneBefore}
 use Rattle.outcomes.proofs.TrueTables.{true-whole, deep-void}
 use Rattle.outcomes.proofs.Order.{done-first, done-all}
 use Rattle.parts.proofs.Filling.{filled-length, filled-in}
-use Rattle.solver.specs.Solve.{PairsFilled}
+use Rattle.solver.specs.Inner.Solve.{PairsFilled}
 use borrow.Author.Needs.{needs}
 use Rattle.solver.proofs.whole.solve_all.Statement.{statement}
 use Rattle.solver.proofs.whole.solve_all.Tie as tie
 
 abbrev Inv-loop : tie.InvT-loop
 Inv-loop tablebase₀ binomials masks images bounds maps k m₀ tablebase m =
-    (3 ≤ m) × (m ≤ k + 1) × (length tablebase ≡ length tablebase₀) × TrueOn (bounds .rings) (bounds .k) (bounds .limit) (Before m 3) tablebase
+    (3 ≤ m) × (m ≤ k + 1) × (length tablebase ≡ length tablebase₀) × TrueOn (bounds .rings) (bounds .k) (bounds .limit) (DoneBefore m 3) tablebase
 
 abbrev μ-loop : tie.MeasureT-loop
 μ-loop tablebase₀ binomials masks images bounds maps k m₀ tablebase m = k + 1 - m
@@ -119,7 +119,8 @@ returns-2 c =
     let e : x .loop .m ≡ s .args .bounds .k + 1 = omega (arith, c .loop-test .left, x .loop .inv .1) in
     true-whole (s .args .bounds .rings) (s .args .bounds .k) (s .args .bounds .limit) (s .args .tablebase .now) (x .loop .tablebase) (s .pre .1 .room) (x .loop .inv .2)
     (done-all (s .args .bounds .rings) (s .args .bounds .k) (s .args .bounds .limit) (x .loop .tablebase)
-    (subst (λ (m : ℕ). TrueOn (s .args .bounds .rings) (s .args .bounds .k) (s .args .bounds .limit) (Before m 3) (x .loop .tablebase)) e (x .loop .inv .3)))
+    (subst (λ (m : ℕ). TrueOn (s .args .bounds .rings) (s .args .bounds .k) (s .args .bounds .limit) (DoneBefore m 3) (x .loop .tablebase)) e
+    (x .loop .inv .3)))
 
 pub solve-all-spec : {M : Type 1} → statement M
 solve-all-spec =

@@ -3,8 +3,8 @@ use mathlib.Core.Path.{_≡_, sym, subst}
 use Prim.Native.Nat.{ℕ}
 use lib.ListN.{length}
 use Rattle.outcomes.specs.Pair.{LowerValid}
-use Rattle.invariance.specs.Used.{LowerSymmetric}
-use Rattle.solver.specs.Solve.{Setting, PairFill}
+use Rattle.invariance.specs.Symmetric.{LowerSymmetric}
+use Rattle.solver.specs.Inner.Solve.{Setting, PairFill}
 use borrow.Author.Needs.{needs}
 use Rattle.solver.proofs.whole.solve_pair.Statement.{statement}
 use Rattle.solver.proofs.whole.solve_pair.Tie as tie

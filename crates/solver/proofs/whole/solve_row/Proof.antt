@@ -4,18 +4,18 @@ use Prim.Native.Nat.{ℕ, _+_, _-_, _≤_}
 use native.Mathlib.Omega.{arith}
 use lib.ListN.{length}
 use Rattle.outcomes.specs.Pair.{Pair}
-use Rattle.outcomes.specs.Order.{TrueOn, Before}
+use Rattle.outcomes.specs.Inner.Done.{TrueOn, DoneBefore}
 use Rattle.outcomes.proofs.PairTrue.{lower-valid}
 use Rattle.outcomes.proofs.Order.{done-lower, done-pair, deep-whole, done-row}
 use Rattle.invariance.proofs.Groups.{group-of}
 use Rattle.invariance.proofs.TrueSymmetric.{lower-true-symmetric}
-use Rattle.solver.specs.Solve.{PairFill}
+use Rattle.solver.specs.Inner.Solve.{PairFill}
 use Rattle.solver.proofs.whole.solve_row.Statement.{statement}
 use Rattle.solver.proofs.whole.solve_row.Tie as tie
 
 abbrev Inv-loop : tie.InvT-loop
 Inv-loop tablebase₀ binomials masks images bounds maps m o₀ tablebase o =
-    (3 ≤ o) × (o ≤ m + 1) × (length tablebase ≡ length tablebase₀) × TrueOn (bounds .rings) (bounds .k) (bounds .limit) (Before m o) tablebase
+    (3 ≤ o) × (o ≤ m + 1) × (length tablebase ≡ length tablebase₀) × TrueOn (bounds .rings) (bounds .k) (bounds .limit) (DoneBefore m o) tablebase
 
 abbrev μ-loop : tie.MeasureT-loop
 μ-loop tablebase₀ binomials masks images bounds maps m o₀ tablebase o = m + 1 - o
@@ -118,7 +118,8 @@ returns-2 c =
     let e : x .loop .o ≡ s .args .m + 1 = omega (arith, c .loop-test .left, x .loop .inv .1) in (
       same-length-2 c,
       done-row (s .args .bounds .rings) (s .args .bounds .k) (s .args .bounds .limit) (x .loop .tablebase) (s .args .m)
-          (subst (λ (o : ℕ). TrueOn (s .args .bounds .rings) (s .args .bounds .k) (s .args .bounds .limit) (Before (s .args .m) o) (x .loop .tablebase)) e (x .loop .inv .3)),
+          (subst (λ (o : ℕ). TrueOn (s .args .bounds .rings) (s .args .bounds .k) (s .args .bounds .limit) (DoneBefore (s .args .m) o)
+          (x .loop .tablebase)) e (x .loop .inv .3)),
     )
 
 pub solve-row-spec : {M : Type 1} → statement M

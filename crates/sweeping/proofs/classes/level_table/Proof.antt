@@ -5,10 +5,10 @@ use Prim.Native.Nat.{ℕ, _-_, _*_}
 use native.Mathlib.Omega.{arith}
 use lib.ListN.{length}
 use Rattle.sizes.specs.Size.{size}
-use Rattle.sweeping.specs.Levels.{Fits}
-use Rattle.sweeping.specs.Marked.{sameSource, lowerSource}
-use Rattle.sweeping.proofs.Sources.{room-of, same-before, lower-before}
-use Rattle.imaging.specs.Images.{leastOfClass}
+use Rattle.sweeping.specs.Inner.Levels.{Fits}
+use Rattle.sweeping.specs.Inner.Marked.{sameSource, lowerSource}
+use Rattle.sweeping.proofs.Sources.{room-of, same-leads, lower-leads}
+use Rattle.imaging.specs.Inner.Images.{leastOfClass}
 use Rattle.sweeping.proofs.Sought.{from-length, level-is}
 use borrow.Author.Needs.{needs}
 use Rattle.sweeping.proofs.classes.level_table.Statement.{statement}
@@ -41,7 +41,7 @@ mark-table-requires c κs =
         images = p .images;
         few = p .few;
         room = room-of (a .maps .rings) (length (a .tablebase .now)) (a .sweep .table) (sameSource (a .sweep .table) (a .sweep .same)) false
-            (same-before (a .sweep .table) (a .sweep .same)) record { whole = p .fits .end-is; within = p .fits .room };
+            (same-leads (a .sweep .table) (a .sweep .same)) record { whole = p .fits .end-is; within = p .fits .room };
         mover-most = k .opponent-most;
         opponent-most = k .mover-most;
         stored = λ h. p .fits .reads .same-room;
@@ -65,7 +65,7 @@ mark-table-requires-2 c κs =
         images = p .images;
         few = p .few;
         room = room-of (a .maps .rings) (length (k .mark-table .last .0)) (a .sweep .table) (lowerSource (a .sweep .table)) true
-            (lower-before (a .sweep .table) (n .opponent-least)) record { whole = f .end-is; within = f .room };
+            (lower-leads (a .sweep .table) (n .opponent-least)) record { whole = f .end-is; within = f .room };
         mover-most = omega (arith, n .opponent-most);
         opponent-most = n .mover-most;
         stored = λ h. f .reads .fewer-room (omega arith);

@@ -3,7 +3,7 @@ use mathlib.Core.Path.{_≡_, subst}
 use Prim.Native.Nat.{ℕ, _+_, _-_}
 use native.Mathlib.Omega.{arith}
 use Rattle.game.specs.Game.{voidEntry}
-use Rattle.parts.specs.Finding.{First, isAt}
+use Rattle.parts.specs.Inner.Finding.{First, isAt}
 use Rattle.sweeping.proofs.Sought.{mark-first}
 use borrow.Author.Needs.{needs}
 use Rattle.sweeping.proofs.judging.find_mark.Statement.{statement}

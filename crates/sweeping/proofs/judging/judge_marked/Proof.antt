@@ -5,10 +5,10 @@ use Prim.Native.Nat.{ℕ, _≤_, _<_, _-_, _+_, _*_}
 use native.Mathlib.Omega.{arith}
 use lib.ListN.{length}
 use Rattle.sizes.specs.Size.{size}
-use Rattle.sweeping.specs.Cursors.{Stands}
-use Rattle.sweeping.specs.Levels.{Fits}
-use Rattle.sweeping.specs.Marked.{judgedClass, isMarked}
-use Rattle.sweeping.specs.Marked.{judgedFirst}
+use Rattle.sweeping.specs.Inner.Cursors.{Stands}
+use Rattle.sweeping.specs.Inner.Levels.{Fits}
+use Rattle.sweeping.specs.Inner.Marked.{judgedClass, isMarked}
+use Rattle.sweeping.specs.Inner.Marked.{judgedFirst}
 use Rattle.sweeping.proofs.Sought.{judged-none, judged-length, judged-step, judged-over, stands-at}
 use Rattle.board.specs.Board.{positionOf}
 use Rattle.ranking.specs.Unrank.{unrank}

@@ -5,7 +5,7 @@ use Prim.Native.Nat.{_-_, _*_}
 use native.Mathlib.Omega.{arith}
 use lib.Dec.{eqb, ltb}
 use borrow.Author.Tests.{le-ltb}
-use Rattle.sweeping.specs.Levels.{allFree}
+use Rattle.sweeping.specs.Inner.Levels.{allFree}
 use borrow.Author.Needs.{needs}
 use Rattle.sweeping.proofs.levels.all_free.Statement.{statement}
 use Rattle.sweeping.proofs.levels.all_free.Tie as tie

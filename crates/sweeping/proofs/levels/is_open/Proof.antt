@@ -1,6 +1,6 @@
 -- `sweeping::levels::is_open` meets its contract. Assumes nothing.
 use mathlib.Core.Path.{refl}
-use Rattle.sweeping.specs.Levels.{isOpen}
+use Rattle.sweeping.specs.Inner.Levels.{isOpen}
 use borrow.Author.Needs.{needs}
 use Rattle.sweeping.proofs.levels.is_open.Statement.{statement}
 use Rattle.sweeping.proofs.levels.is_open.Tie as tie

@@ -4,7 +4,7 @@ use Prim.Native.Nat.{ℕ, _≤_, _-_, _+_}
 use mathlib.Core.Bool.{Bool, false}
 use native.Mathlib.Decide.{ℕ-discrete}
 use native.Mathlib.Omega.{arith}
-use Rattle.sweeping.specs.Levels.{openDecided, Found}
+use Rattle.sweeping.specs.Inner.Levels.{openDecided, Found}
 use Rattle.sweeping.proofs.levels.some_decided.Statement.{statement}
 use Rattle.sweeping.proofs.levels.some_decided.Tie as tie
 

@@ -8,7 +8,7 @@ use lib.ListN.{length}
 use Rattle.board.specs.Board.{positionOf}
 use Rattle.sizes.proofs.Multinomials.{size-small}
 use Rattle.ranking.specs.Unrank.{unrank}
-use Rattle.sweeping.specs.Levels.{Lies, blockedPlace, blockedFirst, blockedRange}
+use Rattle.sweeping.specs.Inner.Levels.{Lies, blockedPlace, blockedFirst, blockedRange}
 use Rattle.sweeping.proofs.Blocked.{blocked-length, halves-none, halves-more, range-after}
 use Rattle.sweeping.proofs.levels.sweep_halves.Statement.{statement}
 use Rattle.sweeping.proofs.levels.sweep_halves.Tie as tie

@@ -6,7 +6,7 @@ use Rattle.lists.specs.Lists.{isEmpty}
 use Rattle.board.specs.Board.{boardOf}
 use Rattle.ranking.specs.Unrank.{unrank}
 use Rattle.rules.specs.Ply.{listedMoves}
-use Rattle.plies.specs.Positions.{Placed}
+use Rattle.plies.specs.Inner.Positions.{Placed}
 use Rattle.outcomes.specs.Whole.{next}
 use Rattle.sweeping.proofs.AtRank.{placed-at}
 use Rattle.sweeping.proofs.Blocked.{no-successor, place-closed, place-blocked, place-free}

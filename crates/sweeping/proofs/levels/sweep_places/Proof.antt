@@ -5,7 +5,7 @@ use Prim.Native.Nat.{ℕ, _+_, _-_, _*_, _/_}
 use native.Mathlib.Omega.{arith}
 use lib.ListN.{length}
 use Rattle.sizes.specs.Size.{size}
-use Rattle.sweeping.specs.Levels.{Lies, blockedFirst, blockedRange}
+use Rattle.sweeping.specs.Inner.Levels.{Lies, blockedFirst, blockedRange}
 use Rattle.sweeping.proofs.Blocked.{blocked-none, blocked-lengths, range-after}
 use borrow.Author.Needs.{needs}
 use Rattle.sweeping.proofs.levels.sweep_places.Statement.{statement}

@@ -4,7 +4,7 @@ use Prim.Native.Nat.{ℕ, _+_, _≤_, _-_, _*_}
 use native.Mathlib.Omega.{arith}
 use lib.ListN.{length}
 use Rattle.sizes.specs.Size.{size}
-use Rattle.sweeping.specs.Levels.{Lies, blockedPlace, blockedRange}
+use Rattle.sweeping.specs.Inner.Levels.{Lies, blockedPlace, blockedRange}
 use Rattle.sweeping.proofs.Blocked.{blocked-length, range-none, range-more}
 use Rattle.sweeping.proofs.levels.sweep_rest.Statement.{statement}
 use Rattle.sweeping.proofs.levels.sweep_rest.Tie as tie

@@ -2,7 +2,7 @@
 use mathlib.Core.Path.{sym, _∙_}
 use Prim.Native.Nat.{_*_}
 use Rattle.board.specs.Board.{boardOf}
-use Rattle.imaging.specs.Images.{leastOfClass}
+use Rattle.imaging.specs.Inner.Images.{leastOfClass}
 use Rattle.sweeping.proofs.Sought.{gone-picked, gone-passed}
 use borrow.Author.Needs.{needs}
 use Rattle.sweeping.proofs.marks.mark_source.Statement.{statement}

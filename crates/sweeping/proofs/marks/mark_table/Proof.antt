@@ -8,10 +8,10 @@ use lib.ListN.{length}
 use Rattle.board.specs.Board.{boardOf}
 use Rattle.sizes.specs.Size.{size}
 use Rattle.ranking.specs.Unrank.{unrank}
-use Rattle.plies.specs.Positions.{Placed}
-use Rattle.imaging.specs.Images.{leastOfClass}
-use Rattle.sweeping.specs.Cursors.{Stands}
-use Rattle.sweeping.specs.Marked.{Stored, isSource, markedFrom}
+use Rattle.plies.specs.Inner.Positions.{Placed}
+use Rattle.imaging.specs.Inner.Images.{leastOfClass}
+use Rattle.sweeping.specs.Inner.Cursors.{Stands}
+use Rattle.sweeping.specs.Inner.Marked.{Stored, isSource, markedFrom}
 use Rattle.sweeping.proofs.AtRank.{placed-at}
 use Rattle.sweeping.proofs.Sources.{room-before}
 use Rattle.sweeping.proofs.Sought.{marked-place, place-length, from-none, from-step, from-over, stands-at}

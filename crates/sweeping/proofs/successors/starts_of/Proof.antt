@@ -5,7 +5,7 @@ use native.Mathlib.Omega.{arith}
 use Rattle.board.specs.Board.{count, boardOf}
 use Rattle.board.proofs.OneToOne.{mover-count, opponent-count}
 use Rattle.layout.specs.Layout.{start}
-use Rattle.sweeping.specs.Tables.{lowerStart}
+use Rattle.sweeping.specs.Inner.Tables.{lowerStart}
 use borrow.Author.Needs.{needs}
 use Rattle.sweeping.proofs.successors.starts_of.Statement.{statement}
 use Rattle.sweeping.proofs.successors.starts_of.Tie as tie

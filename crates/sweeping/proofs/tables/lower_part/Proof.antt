@@ -1,7 +1,7 @@
 -- `sweeping::tables::lower_part` meets its contract. Assumes nothing.
 use mathlib.Core.Path.{_∙_}
 use borrow.Author.Tests.{eq-eqb, ne-eqb}
-use Rattle.sweeping.specs.Tables.{lowerStart, lowerEnd}
+use Rattle.sweeping.specs.Inner.Tables.{lowerStart, lowerEnd}
 use borrow.Author.Needs.{needs}
 use Rattle.sweeping.proofs.tables.lower_part.Statement.{statement}
 use Rattle.sweeping.proofs.tables.lower_part.Tie as tie

@@ -1,0 +1,4 @@
+pub mod Listing
+pub mod Masks
+pub mod Placing
+pub mod Positions

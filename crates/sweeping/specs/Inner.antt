@@ -1,0 +1,4 @@
+pub mod Tables
+pub mod Cursors
+pub mod Levels
+pub mod Marked
