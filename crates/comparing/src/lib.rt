@@ -5,12 +5,10 @@ ghost use Prim.Native.Nat.{_+_, _*_, _≤_, _<_};
 ghost use lib.ListN.{length};
 ghost use Rattle.board.specs.Board.{boardOf};
 ghost use Rattle.sizes.specs.Size.{size};
-ghost use Rattle.sizes.specs.Inner.Binomial.{BinomialTable};
 ghost use Rattle.symmetry.specs.Symmetries.{symmetries};
 ghost use Rattle.invariance.specs.Symmetric.{SymmetricFrom};
-ghost use Rattle.imaging.specs.Inner.Images.{RingImages};
 ghost use Rattle.parts.specs.Inner.Finding.{First};
-ghost use Rattle.comparing.specs.Inner.Compared.{Comparing, imageHas, sameImages, isDecided, Decides};
+ghost use Rattle.comparing.specs.Inner.Compared.{Comparable, Comparing, imageHas, sameImages, isDecided, Decides};
 use parts::DRAW;
 use sweeping::Source;
 
@@ -80,10 +78,7 @@ pub fn is_symmetric(
     rings: usize,
     table: Source,
 ) -> bool
-    requires { ⌜ BinomialTable (now binomials) ⌝ }
-    requires { ⌜ RingImages (now images) ⌝ }
-    requires { ⌜ (rings ≤ 3) × (table .mover ≤ 24) × (table .opponent ≤ 24)
-        × (table .start + size (8 * rings) (table .mover) (table .opponent) ≤ length (now tablebase)) ⌝ }
+    requires { ⌜ Comparable (now binomials) (now images) (length (now tablebase)) rings table ⌝ }
     ensures { λ b. ⌜ Decides (SymmetricFrom symmetries rings (table .start) (table .mover) (table .opponent) (now (tablebase .entry))) b ⌝ }
 {
     let start = table.start;

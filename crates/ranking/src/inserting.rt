@@ -4,8 +4,8 @@ ghost use mathlib.Core.Path.{_≡_};
 ghost use Prim.Native.Nat.{suc, _+_, _≤_, _<_};
 ghost use lib.ListN.{set};
 ghost use Rattle.sets.specs.Sets.{members};
-ghost use Rattle.board.specs.Board.{digit, boardOf, OnBoard};
-ghost use Rattle.sizes.specs.Inner.Binomial.{BinomialTable};
+ghost use Rattle.board.specs.Board.{digit, boardOf};
+ghost use Rattle.ranking.specs.Inner.Rankable.{Rankable};
 ghost use Rattle.ranking.specs.Rank.{rank};
 ghost use Rattle.ranking.specs.Inner.Inserting.{Inserting, Vacant, putStone};
 use board::Position;
@@ -55,8 +55,8 @@ pub fn begin(
     theirs: bool,
     at: usize,
 ) -> Insertion
-    requires { ⌜ BinomialTable (now binomials) ⌝ }
-    requires { ⌜ (points ≤ 24) × OnBoard points position × Vacant (boardOf points position) at ⌝ }
+    requires { ⌜ Rankable (now binomials) points position ⌝ }
+    requires { ⌜ Vacant (boardOf points position) at ⌝ }
     ensures { λ w. ⌜ (w .at ≡ at) × Inserting (boardOf points position) theirs w ⌝ }
 {
     let whole = super::rank(binomials, points, put_stone(position, theirs, at));
@@ -79,9 +79,8 @@ pub fn rank_at(
     theirs: bool,
     walk: Insertion,
 ) -> usize
-    requires { ⌜ BinomialTable (now binomials) ⌝ }
-    requires { ⌜ (points ≤ 24) × OnBoard points position × Vacant (boardOf points position) (walk .at) ⌝ }
-    requires { ⌜ Inserting (boardOf points position) theirs walk ⌝ }
+    requires { ⌜ Rankable (now binomials) points position ⌝ }
+    requires { ⌜ Vacant (boardOf points position) (walk .at) × Inserting (boardOf points position) theirs walk ⌝ }
     ensures { λ r. ⌜ r ≡ rank (set (boardOf points position) (walk .at) (suc (digit theirs))) ⌝ }
 {
     walk.gain
@@ -102,9 +101,8 @@ fn pass(
     theirs: bool,
     walk: Insertion,
 ) -> Insertion
-    requires { ⌜ BinomialTable (now binomials) ⌝ }
-    requires { ⌜ (points ≤ 24) × OnBoard points position × (walk .at < points) ⌝ }
-    requires { ⌜ Inserting (boardOf points position) theirs walk ⌝ }
+    requires { ⌜ Rankable (now binomials) points position ⌝ }
+    requires { ⌜ (walk .at < points) × Inserting (boardOf points position) theirs walk ⌝ }
     ensures { λ w. ⌜ (w .at ≡ walk .at + 1) × Inserting (boardOf points position) theirs w ⌝ }
 {
     let p = walk.at;
@@ -138,9 +136,8 @@ pub fn go_to(
     walk: Insertion,
     to: usize,
 ) -> Insertion
-    requires { ⌜ BinomialTable (now binomials) ⌝ }
-    requires { ⌜ (points ≤ 24) × OnBoard points position × (walk .at ≤ to) × (to < points) ⌝ }
-    requires { ⌜ Inserting (boardOf points position) theirs walk ⌝ }
+    requires { ⌜ Rankable (now binomials) points position ⌝ }
+    requires { ⌜ (walk .at ≤ to) × (to < points) × Inserting (boardOf points position) theirs walk ⌝ }
     ensures { λ w. ⌜ (w .at ≡ to) × Inserting (boardOf points position) theirs w ⌝ }
 {
     let mut now = walk;

@@ -2,10 +2,11 @@
 ghost use mathlib.Core.Path.{_≡_};
 ghost use mathlib.Core.Bool.{cond};
 ghost use Prim.Native.Nat.{suc, _+_, _-_, _≤_, _<_};
-ghost use Rattle.board.specs.Board.{digit, boardOf, positionOf, OnBoard};
+ghost use Rattle.board.specs.Board.{digit, boardOf, positionOf};
 ghost use Rattle.sizes.specs.Size.{size};
 ghost use Rattle.sizes.specs.Inner.Binomial.{BinomialTable};
 ghost use Rattle.ranking.specs.Rank.{rank};
+ghost use Rattle.ranking.specs.Inner.Rankable.{Rankable};
 ghost use Rattle.ranking.specs.Unrank.{below, topValue, unrank};
 
 mod inserting;
@@ -62,8 +63,7 @@ fn contribution(binomials: &[u32; 625], theirs: bool, p: usize, stones: usize, o
 
 // The rank of a position's board. The stones come from the lowest up, so the counts so far are those of the board's part; vacant points add nothing.
 pub fn rank(binomials: &[u32; 625], points: usize, position: Position) -> usize
-    requires { ⌜ BinomialTable (now binomials) ⌝ }
-    requires { ⌜ (points ≤ 24) × OnBoard points position ⌝ }
+    requires { ⌜ Rankable (now binomials) points position ⌝ }
     ensures { λ r. ⌜ r ≡ rank (boardOf points position) ⌝ }
 {
     let mut stones: usize = 0;

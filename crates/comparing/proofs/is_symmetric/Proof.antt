@@ -40,20 +40,20 @@ found c =
     let x = c .before .before in
     let s = entered x in
     let a = s .args in
-    placed-at (a .rings) (s .pre .1 .1 .0) (a .table .mover) (a .table .opponent) (x .loop .r) (omega (arith, c .before .loop-test .taken, x .loop .inv .0))
+    placed-at (a .rings) (s .pre .small) (a .table .mover) (a .table .opponent) (x .loop .r) (omega (arith, c .before .loop-test .taken, x .loop .inv .0))
     (c .seek .result .position) (c .seek .ensures .1)
 
 mul-size : tie.Need-mul-size Inv-loop μ-loop
-mul-size c = omega (arith, c .before .pre .1 .1 .0)
+mul-size c = omega (arith, c .before .pre .small)
 
 size-requires : tie.Need-size-requires Inv-loop μ-loop
-size-requires c κs = let s = c .before in let p = s .pre .1 .1 in (s .pre .0, (omega (arith, p .0), p .1, p .2))
+size-requires c κs = let s = c .before in let p = s .pre in (p .binomials, (omega (arith, p .small), p .mover-most, p .opponent-most))
 
 nowhere-requires : tie.Need-nowhere-requires Inv-loop μ-loop
 nowhere-requires c κs = tt
 
 find-decided-requires : tie.Need-find-decided-requires Inv-loop μ-loop
-find-decided-requires c κs = let s = c .before .before .before in (omega arith, omega (arith, c .before .size .ensures, s .pre .1 .1 .3))
+find-decided-requires c κs = let s = c .before .before .before in (omega arith, omega (arith, c .before .size .ensures, s .pre .room))
 
 loop-holds : tie.Need-loop-holds Inv-loop μ-loop
 loop-holds c =
@@ -70,16 +70,16 @@ seek-requires : tie.Need-seek-requires Inv-loop μ-loop
 seek-requires c κs =
     let x = c .before in
     let s = entered x in
-    (s .pre .0, ((s .pre .1 .1 .0, omega (arith, c .loop-test .taken, x .loop .inv .0)), λ h. x .loop .inv .3 (omega (arith, c .loop-test .taken))))
+    (s .pre .binomials, ((s .pre .small, omega (arith, c .loop-test .taken, x .loop .inv .0)), λ h. x .loop .inv .3 (omega (arith, c .loop-test .taken))))
 
 add-entry : tie.Need-add-entry Inv-loop μ-loop
-add-entry c = let x = c .before .before .before in omega (arith, c .before .before .loop-test .taken, x .loop .inv .0, entered x .pre .1 .1 .3)
+add-entry c = let x = c .before .before .before in omega (arith, c .before .before .loop-test .taken, x .loop .inv .0, entered x .pre .room)
 
 mul-entry : tie.Need-mul-entry Inv-loop μ-loop
-mul-entry c = let x = c .before .before .before in omega (arith, c .before .before .loop-test .taken, x .loop .inv .0, entered x .pre .1 .1 .3)
+mul-entry c = let x = c .before .before .before in omega (arith, c .before .before .loop-test .taken, x .loop .inv .0, entered x .pre .room)
 
 shared-slice-read-entry : tie.Need-shared-slice-read-entry Inv-loop μ-loop
-shared-slice-read-entry c = let x = c .before .before .before .before in omega (arith, c .before .before .before .loop-test .taken, x .loop .inv .0, entered x .pre .1 .1 .3)
+shared-slice-read-entry c = let x = c .before .before .before .before in omega (arith, c .before .before .before .loop-test .taken, x .loop .inv .0, entered x .pre .room)
 
 same-images-requires : tie.Need-same-images-requires Inv-loop μ-loop
 same-images-requires c κs =
@@ -92,7 +92,7 @@ same-images-requires c κs =
     let m = ap (count 1) (w .1) ∙ r .mover in
     let o = ap (count 2) (w .1) ∙ r .opponent in
     let z = ap₂ (size (8 * a .rings)) m o in
-    record { binomials = s .pre .0; images = s .pre .1 .0; small = s .pre .1 .1 .0; on = w .0 .on; room = omega (arith, z, s .pre .1 .1 .3) }
+    record { binomials = s .pre .binomials; images = s .pre .images; small = s .pre .small; on = w .0 .on; room = omega (arith, z, s .pre .room) }
 
 -- what is tested of it
 tested : (c : tie.After-same-images Inv-loop μ-loop)
@@ -126,7 +126,7 @@ add-find-decided c = omega (arith, c .before .before .before .before .before .lo
 find-decided-requires-2 : tie.Need-find-decided-requires-2 Inv-loop μ-loop
 find-decided-requires-2 c κs =
     let x = c .before .before .before .before .before .before in
-    (omega (arith, c .before .before .before .before .before .loop-test .taken), omega (arith, x .loop .inv .0, entered x .pre .1 .1 .3))
+    (omega (arith, c .before .before .before .before .before .loop-test .taken), omega (arith, x .loop .inv .0, entered x .pre .room))
 
 loop-less : tie.Need-loop-less Inv-loop μ-loop
 loop-less c = omega (arith, c .before .before .before .before .before .before .loop-test .taken, c .find-decided2 .ensures .low)
@@ -153,8 +153,8 @@ returns-2 c =
     let x = c .before in
     let s = entered x in
     let a = s .args in
-    passed-all (a .rings) (a .table .start) (a .table .mover) (a .table .opponent) (a .tablebase .now) (s .pre .1 .1 .0) (x .loop .r)
-    (omega (arith, c .loop-test .left, x .loop .inv .0, x .loop .inv .1)) (x .loop .inv .2 (s .pre .1 .1 .0))
+    passed-all (a .rings) (a .table .start) (a .table .mover) (a .table .opponent) (a .tablebase .now) (s .pre .small) (x .loop .r)
+    (omega (arith, c .loop-test .left, x .loop .inv .0, x .loop .inv .1)) (x .loop .inv .2 (s .pre .small))
 
 pub is-symmetric-spec : {M : Type 1} → statement M
 is-symmetric-spec =

@@ -11,7 +11,17 @@ use Rattle.ranking.specs.Rank.{rank}
 use Rattle.game.specs.Game.{drawEntry}
 use Rattle.symmetry.specs.Symmetries.{image}
 use Rattle.imaging.specs.Inner.Images.{RingImages}
+use Rattle.sweeping.specs.declared.marks.Source.{Source}
 use Rattle.comparing.specs.declared.Entered.{Entered}
+
+-- the lent tables, and a table that lies within a tablebase of a length
+pub record Comparable (lent lent-images : List ℕ) (length rings : ℕ) (table : Source) : Type 0 where
+  pub binomials : BinomialTable lent
+  pub images : RingImages lent-images
+  pub small : rings ≤ 3
+  pub mover-most : table .mover ≤ 24
+  pub opponent-most : table .opponent ≤ 24
+  pub room : table .start + size (8 * rings) (table .mover) (table .opponent) ≤ length
 
 -- the lent tables, and a position whose table lies within a tablebase of a length
 pub record Comparing (lent lent-images : List ℕ) (length rings : ℕ) (at : Entered) : Type 0 where

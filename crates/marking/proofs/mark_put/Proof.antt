@@ -12,6 +12,7 @@ use Rattle.board.proofs.Sides.{length-board, board-values}
 use Rattle.sizes.specs.Size.{size}
 use Rattle.ranking.specs.Rank.{rank}
 use Rattle.ranking.specs.Inner.Inserting.{Inserting, Vacant}
+use Rattle.ranking.specs.Inner.Rankable.{Rankable}
 use Rattle.ranking.proofs.Insertions.{put-low}
 use Rattle.marking.specs.Inner.Marks.{markAt, marked, places}
 use Rattle.marking.proofs.Marks.{mark-is, marked-one}
@@ -39,6 +40,9 @@ module _ (s : tie.Start Inv-loop μ-loop) where
   few : 8 * s .args .rings ≤ 24
   few = omega (arith, s .pre .placed .small)
 
+  rankable : Rankable (s .args .binomials .now) (8 * s .args .rings) (s .args .base)
+  rankable = record { binomials = s .pre .binomials; few = few; on = s .pre .placed .on }
+
   -- a point of the set is vacant
   vacant : (p : ℕ) → bit (s .args .points) p ≡ 1 → Vacant board p
   vacant p e = vacant-board (s .args .rings) (s .args .base) (s .pre .placed) p (s .pre .vacant p e)
@@ -63,7 +67,7 @@ begin-requires c κs =
     let s = c .before .before .before in
     let a = s .args in
     let e = lowest-member (a .points) (s .fits .points .fits) (c .before .if1 .taken) in
-    (s .pre .binomials, (few s, s .pre .placed .on, vacant s (c .lowest .result) (ap (bit (a .points)) (c .lowest .ensures .0) ∙ e)))
+    (rankable s, vacant s (c .lowest .result) (ap (bit (a .points)) (c .lowest .ensures .0) ∙ e))
 
 loop-holds : tie.Need-loop-holds Inv-loop μ-loop
 loop-holds c =
@@ -93,9 +97,10 @@ go-to-requires c κs =
     let s = x .before .before .before .before .before in
     let a = s .args in
     let l = free c .low in (
-      s .pre .binomials,
+      rankable s,
       (
-        (few s, s .pre .placed .on, x .loop .inv .2 (c .take-lowest .result .lowest) (c .take-lowest .ensures .member), omega (arith, l, length-board (8 * a .rings) (a .base))),
+        x .loop .inv .2 (c .take-lowest .result .lowest) (c .take-lowest .ensures .member),
+        omega (arith, l, length-board (8 * a .rings) (a .base)),
         x .loop .inv .1,
       ),
     )
@@ -112,7 +117,7 @@ there c =
 rank-at-requires : tie.Need-rank-at-requires Inv-loop μ-loop
 rank-at-requires c κs =
     let s = c .before .before .before .before .before .before .before .before in
-    (s .pre .binomials, ((few s, s .pre .placed .on, there c), c .go-to .ensures .1))
+    (rankable s, (there c, c .go-to .ensures .1))
 
 mark-entry-requires : tie.Need-mark-entry-requires Inv-loop μ-loop
 mark-entry-requires c κs =

@@ -142,7 +142,7 @@ rank-requires : tie.Need-rank-requires
 rank-requires c κs =
     let p = c .before .before .before .before .before in
     let x = p .before in
-    (x .before .before .before .binomial-table .ensures, (few-points _ _ (known x .board), shows p .on))
+    record { binomials = x .before .before .before .binomial-table .ensures; few = few-points _ _ (known x .board); on = shows p .on }
 
 add-entry : tie.Need-add-entry
 add-entry c = omega (arith, small c)

@@ -42,7 +42,7 @@ position-of-requires c κs = few-points _ _ (board (c .before))
 rank-requires : tie.Need-rank-requires
 rank-requires c κs =
     let p = c .before in
-    (p .before .binomial-table .ensures, (few-points _ _ (board (p .before .before)), shows p .on))
+    record { binomials = p .before .binomial-table .ensures; few = few-points _ _ (board (p .before .before)); on = shows p .on }
 
 returns-2 : tie.Need-returns-2
 unfolding rankCall

@@ -21,11 +21,11 @@ here : (c : tie.After-take-lowest Inv-loop μ-loop)
 here c =
     let x = c .before .before in
     let s = x .before .before in
-    passing-here (s .args .points) (s .args .position) (s .pre .1 .0) (s .pre .1 .1) (x .loop .stones) (x .loop .o) (x .loop .r) (x .loop .left)
+    passing-here (s .args .points) (s .args .position) (s .pre .few) (s .pre .on) (x .loop .stones) (x .loop .o) (x .loop .r) (x .loop .left)
     (c .take-lowest .result .lowest) (c .take-lowest .result .rest) (x .loop .inv) (c .take-lowest .ensures)
 
 loop-holds : tie.Need-loop-holds Inv-loop μ-loop
-loop-holds c = let s = c .before in passing-none (s .args .points) (s .args .position) (s .pre .1 .0) (s .pre .1 .1)
+loop-holds c = let s = c .before in passing-none (s .args .points) (s .args .position) (s .pre .few) (s .pre .on)
 
 take-lowest-requires : tie.Need-take-lowest-requires Inv-loop μ-loop
 take-lowest-requires c κs = c .loop-test .taken
@@ -47,7 +47,7 @@ contribution-requires c κs =
     let x = c .before .before .before in
     let s = x .before .before in
     let h = here (c .before) in
-    (s .pre .0, omega (arith, h .low, h .few, s .pre .1 .0, x .loop .inv .some, digit-lt (c .has .result)))
+    (s .pre .binomials, omega (arith, h .low, h .few, s .pre .few, x .loop .inv .some, digit-lt (c .has .result)))
 
 add-r : tie.Need-add-r Inv-loop μ-loop
 add-r c =
@@ -60,7 +60,7 @@ add-r c =
       arith,
       h .rank-low,
       c .contribution .ensures,
-      below-small (suc d) (k .before .take-lowest .result .lowest) (x .loop .stones + 1 - (x .loop .o + d)) (x .loop .o + d) (omega (arith, h .low, s .pre .1 .0)),
+      below-small (suc d) (k .before .take-lowest .result .lowest) (x .loop .stones + 1 - (x .loop .o + d)) (x .loop .o + d) (omega (arith, h .low, s .pre .few)),
     )
 
 loop-less : tie.Need-loop-less Inv-loop μ-loop
@@ -72,7 +72,7 @@ loop-again c =
     let t = k .before in
     let x = t .before .before in
     let s = x .before .before in
-    passing-more (s .args .points) (s .args .position) (s .pre .1 .0) (s .pre .1 .1) (x .loop .stones) (x .loop .o) (x .loop .r) (x .loop .left)
+    passing-more (s .args .points) (s .args .position) (s .pre .few) (s .pre .on) (x .loop .stones) (x .loop .o) (x .loop .r) (x .loop .left)
     (t .take-lowest .result .lowest) (t .take-lowest .result .rest) (x .loop .inv) (t .take-lowest .ensures) (k .has .result)
     (c .contribution .result) (k .has .ensures) (c .contribution .ensures)
 
@@ -80,7 +80,7 @@ returns : tie.Need-returns Inv-loop μ-loop
 returns c =
     let x = c .before in
     let s = x .before .before in
-    passing-all (s .args .points) (s .args .position) (s .pre .1 .0) (s .pre .1 .1) (x .loop .stones) (x .loop .o) (x .loop .r) (x .loop .left)
+    passing-all (s .args .points) (s .args .position) (s .pre .few) (s .pre .on) (x .loop .stones) (x .loop .o) (x .loop .r) (x .loop .left)
     (x .loop .inv) (c .loop-test .left)
 
 pub rank-spec : {M : Type 1} → statement M

@@ -34,15 +34,14 @@ position-of-requires c κs = omega (arith, in-use (c .before), c .before .pre)
 
 rank-requires : tie.Need-rank-requires
 rank-requires c κs =
-    let a = c .before .before .args in
-    let b : List ℕ = take (8 * a .rings) (a .t3) in (
-      c .before .before .pre .0,
-      (
-        omega (arith, c .before .before .pre .1 .0),
-        subst (λ (n : ℕ). OnBoard n (c .position-of .result)) (in-use (c .before .before))
-            (subst (λ (p : Position). OnBoard (length b) p) (sym (c .position-of .ensures)) (position-on b)),
-      ),
-    )
+    let s = c .before .before in
+    let b : List ℕ = take (8 * s .args .rings) (s .args .t3) in
+    record {
+      binomials = s .pre .0;
+      few = omega (arith, s .pre .1 .0);
+      on = subst (λ (n : ℕ). OnBoard n (c .position-of .result)) (in-use s)
+          (subst (λ (p : Position). OnBoard (length b) p) (sym (c .position-of .ensures)) (position-on b));
+    }
 
 returns : tie.Need-returns
 returns c =

@@ -29,7 +29,7 @@ rank-at-requires : tie.Need-rank-at-requires
 rank-at-requires c κs =
     let s = c .before .before in
     let j = s .pre .1 .1 in
-    (s .pre .0 .binomials, ((omega (arith, j .placed .small), j .placed .on, j .vacant), j .inserting))
+    (record { binomials = s .pre .0 .binomials; few = omega (arith, j .placed .small); on = j .placed .on }, (j .vacant, j .inserting))
 
 -- the move without a removal is listed
 listed : (c : tie.Then1)

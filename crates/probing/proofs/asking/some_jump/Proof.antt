@@ -5,12 +5,13 @@ use mathlib.Core.Bool.{true}
 use Prim.Native.Nat.{ℕ, _+_, _*_, _^_, _≤_, _<_}
 use native.Mathlib.Omega.{arith}
 use Rattle.lists.specs.Lists.{any}
-use Rattle.sets.specs.Sets.{bit, lowest, elements, setFrom}
+use Rattle.sets.specs.Sets.{bit, lowest, elements, setFrom, without}
 use Rattle.sets.proofs.Least.{lowest-least}
 use Rattle.sets.proofs.Elements.{lowest-member}
 use Rattle.sets.proofs.Passing.{Sought, sought-none, sought-more, sought-found, sought-all}
 use Rattle.board.specs.Board.{boardOf}
 use Rattle.ranking.specs.Inner.Inserting.{Inserting}
+use Rattle.ranking.specs.Inner.Rankable.{Rankable}
 use Rattle.rules.specs.Ply.{destinations, removable, slideMoves, afterPly}
 use Rattle.plies.specs.Inner.Positions.{Slide}
 use Rattle.plies.proofs.OnPositions.{from-low}
@@ -54,6 +55,17 @@ module _ (s : tie.Start Inv-loop μ-loop) where
   first : (to : ℕ) → to ≡ lowest (s .args .stone .tos) → bit (s .args .stone .tos) to ≡ 1
   first to e = ap (bit (s .args .stone .tos)) e ∙ lowest-member (s .args .stone .tos) fits (s .pre .1 .1)
 
+  -- the position without the stone has a rank
+  liftable : (o : ℕ) (made : o ≡ without (s .args .position .mover) (s .args .stone .from))
+      → Rankable (s .args .binomials .now) (8 * s .args .rings) record { mover = s .args .position .opponent; opponent = o }
+  liftable o made =
+      let a = s .args in
+      record {
+        binomials = s .pre .0 .binomials;
+        few = few;
+        on = lifted-placed (a .rings) (a .position) (s .pre .0 .placed) (a .stone .from) o (s .pre .1 .0 .own) made .on;
+      }
+
   -- both points are below 24
   low : (to : ℕ) → bit (s .args .stone .tos) to ≡ 1 → (s .args .stone .from < 24) × (to < 24)
   low to e =
@@ -77,13 +89,9 @@ begin-requires c κs =
     let s = w .before .before in
     let a = s .args in
     let own = s .pre .1 .0 .own in (
-      s .pre .0 .binomials,
-      (
-        few s,
-        lifted-placed (a .rings) (a .position) (s .pre .0 .placed) (a .stone .from) (w .without .result) own (w .without .ensures) .on,
-        lifted-vacant (a .rings) (a .position) (s .pre .0 .placed) (a .stone .from) (w .without .result) own (w .without .ensures) (c .lowest .result)
-            (slides s (c .lowest .result) (first s (c .lowest .result) (c .lowest .ensures .0))),
-      ),
+      liftable s (w .without .result) (w .without .ensures),
+      lifted-vacant (a .rings) (a .position) (s .pre .0 .placed) (a .stone .from) (w .without .result) own (w .without .ensures) (c .lowest .result)
+          (slides s (c .lowest .result) (first s (c .lowest .result) (c .lowest .ensures .0))),
     )
 
 loop-holds : tie.Need-loop-holds Inv-loop μ-loop
@@ -110,16 +118,11 @@ go-to-requires : tie.Need-go-to-requires Inv-loop μ-loop
 go-to-requires c κs =
     let x = c .before .before in
     let w = x .before .before .before in
-    let s = w .before .before in
-    let a = s .args in (
-      s .pre .0 .binomials,
+    let s = w .before .before in (
+      liftable s (w .without .result) (w .without .ensures),
       (
-        (
-          few s,
-          lifted-placed (a .rings) (a .position) (s .pre .0 .placed) (a .stone .from) (w .without .result) (s .pre .1 .0 .own) (w .without .ensures) .on,
-          x .loop .inv .2 (c .take-lowest .result .lowest) (c .take-lowest .ensures .member),
-          slides s (c .take-lowest .result .lowest) (among c) .low,
-        ),
+        x .loop .inv .2 (c .take-lowest .result .lowest) (c .take-lowest .ensures .member),
+        slides s (c .take-lowest .result .lowest) (among c) .low,
         x .loop .inv .1,
       ),
     )

@@ -19,28 +19,28 @@ use Rattle.ranking.proofs.inserting.begin.Tie as tie
 
 module _ (s : tie.Start) where
   at-low : s .args .at < 24
-  at-low = omega (arith, vacant-low (s .args .points) (s .args .position) (s .pre .1 .1) (s .args .at) (s .pre .1 .2), s .pre .1 .0)
+  at-low = omega (arith, vacant-low (s .args .points) (s .args .position) (s .pre .0 .on) (s .args .at) (s .pre .1), s .pre .0 .few)
 
   values : Values (boardOf (s .args .points) (s .args .position))
-  values = board-values (s .args .points) (s .args .position) (s .pre .1 .1)
+  values = board-values (s .args .points) (s .args .position) (s .pre .0 .on)
 
   short : length (boardOf (s .args .points) (s .args .position)) ≤ 24
-  short = omega (arith, length-board (s .args .points) (s .args .position), s .pre .1 .0)
+  short = omega (arith, length-board (s .args .points) (s .args .position), s .pre .0 .few)
 
   -- the stones below the point
   mover : (m : ℕ) → m ≡ members (s .args .position .mover) (s .args .at)
       → m ≡ count 1 (take (s .args .at) (boardOf (s .args .points) (s .args .position)))
   mover m e =
       let a = s .args in
-      sym (count-members 1 (boardOf (a .points) (a .position)) (a .at) (omega (arith, s .pre .1 .2 .low))
-      ∙ ap (λ (k : ℕ). members k (a .at)) (mover-set (a .points) (a .position) (s .pre .1 .1)) ∙ sym e)
+      sym (count-members 1 (boardOf (a .points) (a .position)) (a .at) (omega (arith, s .pre .1 .low))
+      ∙ ap (λ (k : ℕ). members k (a .at)) (mover-set (a .points) (a .position) (s .pre .0 .on)) ∙ sym e)
 
   opponent : (o : ℕ) → o ≡ members (s .args .position .opponent) (s .args .at)
       → o ≡ count 2 (take (s .args .at) (boardOf (s .args .points) (s .args .position)))
   opponent o e =
       let a = s .args in
-      sym (count-members 2 (boardOf (a .points) (a .position)) (a .at) (omega (arith, s .pre .1 .2 .low))
-      ∙ ap (λ (k : ℕ). members k (a .at)) (opponent-set (a .points) (a .position) (s .pre .1 .1)) ∙ sym e)
+      sym (count-members 2 (boardOf (a .points) (a .position)) (a .at) (omega (arith, s .pre .1 .low))
+      ∙ ap (λ (k : ℕ). members k (a .at)) (opponent-set (a .points) (a .position) (s .pre .0 .on)) ∙ sym e)
 
 put-stone-requires : tie.Need-put-stone-requires
 put-stone-requires c κs = omega (arith, at-low c)
@@ -48,14 +48,13 @@ put-stone-requires c κs = omega (arith, at-low c)
 rank-requires : tie.Need-rank-requires
 rank-requires c κs =
     let s = c .before in
-    let a = s .args in (
-      s .pre .0,
-      (
-        s .pre .1 .0,
-        subst (λ (p : Position). OnBoard (a .points) p) (sym (c .put-stone .ensures))
-            (put-stone-on (a .points) (a .position) (s .pre .1 .1) (a .at) (s .pre .1 .2) (a .theirs)),
-      ),
-    )
+    let a = s .args in
+    record {
+      binomials = s .pre .0 .binomials;
+      few = s .pre .0 .few;
+      on = subst (λ (p : Position). OnBoard (a .points) p) (sym (c .put-stone .ensures))
+          (put-stone-on (a .points) (a .position) (s .pre .0 .on) (a .at) (s .pre .1) (a .theirs));
+    }
 
 count-below-requires : tie.Need-count-below-requires
 count-below-requires c κs = omega (arith, at-low (c .before .before))
@@ -72,7 +71,7 @@ few c =
       arith,
       mover s (c .count-below2 .result) (c .count-below2 .ensures),
       opponent s (c .before .count-below .result) (c .before .count-below .ensures),
-      stones-few (boardOf (a .points) (a .position)) (values s) (short s) (a .at) (omega (arith, s .pre .1 .2 .low)),
+      stones-few (boardOf (a .points) (a .position)) (values s) (short s) (a .at) (omega (arith, s .pre .1 .low)),
     )
 
 add-stones : tie.Need-add-stones
@@ -92,7 +91,7 @@ add-contribution-2 c =
 contribution-requires : tie.Need-contribution-requires
 contribution-requires c κs =
     let s = c .before .before .before .before in
-    (s .pre .0, omega (arith, few c, at-low s, digit-lt (s .args .theirs)))
+    (s .pre .0 .binomials, omega (arith, few c, at-low s, digit-lt (s .args .theirs)))
 
 -- the walk begun
 begun : (c : tie.After-contribution)
@@ -113,10 +112,10 @@ begun c =
     let b = boardOf (a .points) (a .position) in
     let o = opponent s (k .count-below .result) (k .count-below .ensures) in
     inserting-first b (values s) (short s) (a .theirs) (a .at) (n .count-below2 .result + k .count-below .result) (k .count-below .result)
-    (c .contribution .result) (r .rank .result) (s .pre .1 .2) (ap₂ _+_ (mover s (n .count-below2 .result) (n .count-below2 .ensures)) o) o
+    (c .contribution .result) (r .rank .result) (s .pre .1) (ap₂ _+_ (mover s (n .count-below2 .result) (n .count-below2 .ensures)) o) o
     (c .contribution .ensures)
     (r .rank .ensures ∙ ap (λ (p : Position). rank (boardOf (a .points) p)) (r .before .put-stone .ensures)
-    ∙ ap rank (put-stone-board (a .points) (a .position) (s .pre .1 .1) (a .at) (s .pre .1 .2) (a .theirs)))
+    ∙ ap rank (put-stone-board (a .points) (a .position) (s .pre .0 .on) (a .at) (s .pre .1) (a .theirs)))
 
 sub-t11 : tie.Need-sub-t11
 sub-t11 c = begun c .0

@@ -19,7 +19,7 @@ loop-holds c = search needs
 pass-requires : tie.Need-pass-requires Inv-loop μ-loop
 pass-requires c κs =
     let s = c .before .before .before in
-    (s .pre .0, ((s .pre .1 .0 .0, s .pre .1 .0 .1, omega arith), c .before .before .loop .inv .1))
+    (s .pre .0, (omega arith, c .before .before .loop .inv .1))
 
 loop-less : tie.Need-loop-less Inv-loop μ-loop
 loop-less c = search needs

@@ -16,13 +16,13 @@ use Rattle.ranking.proofs.inserting.pass.Tie as tie
 
 module _ (s : tie.Start) where
   values : Values (boardOf (s .args .points) (s .args .position))
-  values = board-values (s .args .points) (s .args .position) (s .pre .1 .0 .1)
+  values = board-values (s .args .points) (s .args .position) (s .pre .0 .on)
 
   short : length (boardOf (s .args .points) (s .args .position)) ≤ 24
-  short = omega (arith, length-board (s .args .points) (s .args .position), s .pre .1 .0 .0)
+  short = omega (arith, length-board (s .args .points) (s .args .position), s .pre .0 .few)
 
   at-low : s .args .walk .at < length (boardOf (s .args .points) (s .args .position))
-  at-low = omega (arith, length-board (s .args .points) (s .args .position), s .pre .1 .0 .2)
+  at-low = omega (arith, length-board (s .args .points) (s .args .position), s .pre .1 .0)
 
   -- the walk's numbers
   low : Low (boardOf (s .args .points) (s .args .position)) values short (s .args .theirs) (s .args .walk)
@@ -36,7 +36,7 @@ stone c =
     let h = c .before .before in
     let s = h .before .before in
     let a = s .args in
-    stone-value (a .points) (a .position) (s .pre .1 .0 .1) (a .walk .at) (s .pre .1 .0 .2) (sym (h .has .ensures) ∙ c .before .if1 .taken)
+    stone-value (a .points) (a .position) (s .pre .0 .on) (a .walk .at) (s .pre .1 .0) (sym (h .has .ensures) ∙ c .before .if1 .taken)
     ∙ ap (λ (y : Bool). suc (digit y)) (sym (c .has2 .ensures))
 
 room : (c : tie.After-has2) → c .before .before .before .before .args .walk .stones < c .before .before .before .before .args .walk .at
@@ -79,13 +79,13 @@ contribution-requires : tie.Need-contribution-requires
 contribution-requires c κs =
     let h = c .before .before in
     let s = h .before .before .before .before in
-    (s .pre .0, omega (arith, room h, low s .some, at-low s, short s, digit-lt (h .has2 .result), digit-lt (s .args .theirs)))
+    (s .pre .0 .binomials, omega (arith, room h, low s .some, at-low s, short s, digit-lt (h .has2 .result), digit-lt (s .args .theirs)))
 
 contribution-requires-2 : tie.Need-contribution-requires-2
 contribution-requires-2 c κs =
     let h = c .before .before .before in
     let s = h .before .before .before .before in
-    (s .pre .0, omega (arith, room h, low s .some, at-low s, short s, digit-lt (h .has2 .result)))
+    (s .pre .0 .binomials, omega (arith, room h, low s .some, at-low s, short s, digit-lt (h .has2 .result)))
 
 add-t14 : tie.Need-add-t14
 add-t14 c = search needs
@@ -138,7 +138,7 @@ returns-2 c =
     let a = s .args in (
       refl,
       passed-vacant (boardOf (a .points) (a .position)) (values s) (short s) (a .theirs) (a .walk) (s .pre .1 .1) (at-low s)
-          (vacant-value (a .points) (a .position) (s .pre .1 .0 .1) (a .walk .at) (s .pre .1 .0 .2) (sym (h .has .ensures) ∙ c .if1 .left)),
+          (vacant-value (a .points) (a .position) (s .pre .0 .on) (a .walk .at) (s .pre .1 .0) (sym (h .has .ensures) ∙ c .if1 .left)),
     )
 
 pub pass-spec : {M : Type 1} → statement M

@@ -12,20 +12,20 @@ use Rattle.ranking.proofs.inserting.rank_at.Statement.{statement}
 use Rattle.ranking.proofs.inserting.rank_at.Tie as tie
 
 short : (s : tie.Start) → length (boardOf (s .args .points) (s .args .position)) ≤ 24
-short s = omega (arith, length-board (s .args .points) (s .args .position), s .pre .1 .0 .0)
+short s = omega (arith, length-board (s .args .points) (s .args .position), s .pre .0 .few)
 
 -- the walk's numbers
 low : (s : tie.Start)
-    → Low (boardOf (s .args .points) (s .args .position)) (board-values (s .args .points) (s .args .position) (s .pre .1 .0 .1)) (short s)
+    → Low (boardOf (s .args .points) (s .args .position)) (board-values (s .args .points) (s .args .position) (s .pre .0 .on)) (short s)
     (s .args .theirs) (s .args .walk)
 low s =
     let a = s .args in
-    inserting-low (boardOf (a .points) (a .position)) (board-values (a .points) (a .position) (s .pre .1 .0 .1)) (short s) (a .theirs) (a .walk) (s .pre .1 .1)
+    inserting-low (boardOf (a .points) (a .position)) (board-values (a .points) (a .position) (s .pre .0 .on)) (short s) (a .theirs) (a .walk) (s .pre .1 .1)
 
 at-low : (s : tie.Start) → suc (s .args .walk .at) ≤ 24
 at-low s =
     let a = s .args in
-    omega (arith, vacant-low (a .points) (a .position) (s .pre .1 .0 .1) (a .walk .at) (s .pre .1 .0 .2), s .pre .1 .0 .0)
+    omega (arith, vacant-low (a .points) (a .position) (s .pre .0 .on) (a .walk .at) (s .pre .1 .0), s .pre .0 .few)
 
 add-contribution : tie.Need-add-contribution
 add-contribution c = let s = c .before in omega (arith, low s .few, at-low s)
@@ -39,7 +39,7 @@ add-contribution-2 c = let s = c .before .before in omega (arith, low s .few, lo
 contribution-requires : tie.Need-contribution-requires
 contribution-requires c κs =
     let s = c .before .before in
-    (s .pre .0, omega (arith, low s .few, low s .some, at-low s, digit-lt (s .args .theirs)))
+    (s .pre .0 .binomials, omega (arith, low s .few, low s .some, at-low s, digit-lt (s .args .theirs)))
 
 add-result : tie.Need-add-result
 add-result c =
@@ -60,8 +60,8 @@ returns c =
     omega (
       arith,
       c .before .contribution .ensures,
-      inserting-rank (boardOf (a .points) (a .position)) (board-values (a .points) (a .position) (s .pre .1 .0 .1)) (short s) (a .theirs) (a .walk)
-          (s .pre .1 .1) (s .pre .1 .0 .2),
+      inserting-rank (boardOf (a .points) (a .position)) (board-values (a .points) (a .position) (s .pre .0 .on)) (short s) (a .theirs) (a .walk)
+          (s .pre .1 .1) (s .pre .1 .0),
     )
 
 pub rank-at-spec : {M : Type 1} → statement M

@@ -38,18 +38,15 @@ is-symmetric-requires c κs =
       mover-high = omega (arith, q .opponent-high);
       opponent-low = q .mover-low;
       opponent-high = q .mover-high;
-    } in (
-      s .pre .0,
-      (
-        s .pre .1 .0,
-        (
-          q .small,
-          omega (arith, q .opponent-high, p .1),
-          omega (arith, q .mover-high, p .1),
-          omega (arith, end-is (8 * a .rings) (a .k) (a .o - 1) (a .m), end-within (8 * a .rings) (a .k) w, c .start .ensures .0, p .2),
-        ),
-      ),
-    )
+    } in
+    record {
+      binomials = s .pre .0;
+      images = s .pre .1 .0;
+      small = q .small;
+      mover-most = omega (arith, q .opponent-high, p .1);
+      opponent-most = omega (arith, q .mover-high, p .1);
+      room = omega (arith, end-is (8 * a .rings) (a .k) (a .o - 1) (a .m), end-within (8 * a .rings) (a .k) w, c .start .ensures .0, p .2);
+    }
 
 returns-2 : tie.Need-returns-2
 returns-2 c =
