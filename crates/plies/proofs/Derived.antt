@@ -1,16 +1,17 @@
--- The masks that the code derives are the masks of the board: the mills placed one after the other stand where the rule says, by a computed test for
--- each number of rings. Assumes nothing.
+-- The masks that the code derives are the masks of the board, by computed tests for each number of rings: the mills placed one after the other stand
+-- where the rule says, and the neighbours are those of three rings cut to the board. Assumes nothing.
 use mathlib.Core.Path.{_≡_, refl}
 use mathlib.Core.Bool.{Bool, true}
 use mathlib.Core.List.{List, []}
-use Prim.Native.Nat.{ℕ, zero, suc, _+_, _*_, _≤_, _<_}
+use Prim.Native.Nat.{ℕ, zero, suc, _+_, _-_, _*_, _^_, _≤_, _<_}
 use native.Mathlib.Omega.{arith}
+use lib.Bits.{bitAnd}
 use lib.Dec.{eqb}
 use lib.ListN.{length, getD, replicate}
 use borrow.Author.Tests.{eqb-true}
-use Rattle.lists.proofs.Table.{everyTwo, every-two}
+use Rattle.lists.proofs.Table.{every, every-at, everyTwo, every-two}
 use Rattle.sets.specs.Sets.{withAll, setFrom}
-use Rattle.board.specs.Geometry.{ringMills, crossMills, mills, millsThrough}
+use Rattle.board.specs.Geometry.{points, follows, inward, adjoin, neighbours, ringMills, crossMills, mills, millsThrough}
 use Rattle.board.specs.Tables.{millPoint}
 use Rattle.plies.specs.Inner.Placing.{placed, millPlaced, millsPlaced}
 
@@ -43,3 +44,21 @@ derived-length (suc zero) h = refl
 derived-length (suc (suc zero)) h = refl
 derived-length (suc (suc (suc zero))) h = refl
 derived-length (suc (suc (suc (suc r)))) h = absurd (omega arith)
+
+-- the neighbours on fewer rings are those on three that are points of the board
+cutAt : ℕ → ℕ → Bool
+cutAt rings p = eqb (bitAnd (2 ^ (8 * rings) - 1) (setFrom (neighbours 3 p))) (setFrom (neighbours rings p))
+
+pub neighbours-cut : (rings : ℕ) → rings ≤ 3 → (p : ℕ) → p < 24 → bitAnd (2 ^ (8 * rings) - 1) (setFrom (neighbours 3 p)) ≡ setFrom (neighbours rings p)
+unfolding cutAt neighbours adjoin follows inward points setFrom withAll
+neighbours-cut rings h p a = go rings h
+  where
+    at : (rings : ℕ) → every 24 (cutAt rings) ≡ true → bitAnd (2 ^ (8 * rings) - 1) (setFrom (neighbours 3 p)) ≡ setFrom (neighbours rings p)
+    at rings t = eqb-true _ _ (every-at 24 (cutAt rings) t p a)
+
+    go : (rings : ℕ) → rings ≤ 3 → bitAnd (2 ^ (8 * rings) - 1) (setFrom (neighbours 3 p)) ≡ setFrom (neighbours rings p)
+    go zero l = at 0 refl
+    go (suc zero) l = at 1 refl
+    go (suc (suc zero)) l = at 2 refl
+    go (suc (suc (suc zero))) l = at 3 refl
+    go (suc (suc (suc (suc r)))) l = absurd (omega arith)

@@ -1,12 +1,10 @@
 // The masks of a board: the neighbours of each point and the two mills through it, as sets. A call derives them once from the fixed tables and lends
 // them down. This file alone knows where the parts lie.
 ghost use mathlib.Core.Path.{_≡_};
-ghost use mathlib.Core.Bool.{true, false};
 ghost use mathlib.Core.List.{[]};
-ghost use Prim.Native.Nat.{_+_, _≤_, _<_};
-ghost use lib.Dec.{ltb};
+ghost use Prim.Native.Nat.{_-_, _*_, _^_, _≤_, _<_};
 ghost use lib.ListN.{length, getD, replicate};
-ghost use Rattle.sets.specs.Sets.{with, setFrom};
+ghost use Rattle.sets.specs.Sets.{setFrom};
 ghost use Rattle.board.specs.Geometry.{neighbours, mills, millsThrough};
 ghost use Rattle.board.specs.Tables.{NeighbourTable, DegreeTable, MillTable};
 ghost use Rattle.plies.specs.Inner.Masks.{Masks};
@@ -76,32 +74,27 @@ fn mills_placed(rings: usize) -> [u32; 72]
     masks
 }
 
-// The set with one point more, if that is a point in use.
-fn with_used(s: u32, points: usize, p: usize) -> u32
-    requires { ⌜ p < 24 ⌝ }
-    ensures { λ r. ⌜ r ≡ elim (ltb p points) [ true ↦ with s p | false ↦ s ] ⌝ }
-{
-    if p < points {
-        return sets::with(s, p);
-    }
-    s
-}
-
-// The neighbours of one point.
-fn neighbour_mask(table: &[usize; 96], degrees: &[usize; 24], rings: usize, p: usize) -> u32
-    requires { ⌜ NeighbourTable (now table) ⌝ }
-    requires { ⌜ DegreeTable (now degrees) ⌝ }
-    requires { ⌜ (rings ≤ 3) × (p < 24) ⌝ }
-    ensures { λ r. ⌜ r ≡ setFrom (neighbours rings p) ⌝ }
+// The neighbours of one point on three rings.
+fn neighbour_mask(table: &[usize; 96], degrees: &[usize; 24], p: usize) -> u32
+    requires { ⌜ NeighbourTable (now table) × DegreeTable (now degrees) × (p < 24) ⌝ }
+    ensures { λ r. ⌜ r ≡ setFrom (neighbours 3 p) ⌝ }
 {
     let degree = board::degree(degrees, p);
     let mut s: u32 = 0;
     let mut j = 0;
     while j < degree {
-        s = with_used(s, 8 * rings, board::neighbour(table, p, j));
+        s = sets::with(s, board::neighbour(table, p, j));
         j += 1;
     }
     s
+}
+
+// The points of a board.
+fn all_points(rings: usize) -> u32
+    requires { ⌜ rings ≤ 3 ⌝ }
+    ensures { λ r. ⌜ r ≡ 2 ^ (8 * rings) - 1 ⌝ }
+{
+    (1u32 << (8 * rings)) - 1
 }
 
 // The masks of a board.
@@ -111,10 +104,11 @@ pub fn masks_of(rings: usize) -> [u32; 72]
 {
     let table = board::neighbour_table();
     let degrees = board::degree_table();
+    let points = all_points(rings);
     let mut masks = mills_placed(rings);
     let mut p = 0;
     while p < 24 {
-        masks[p] = neighbour_mask(&table, &degrees, rings, p);
+        masks[p] = points & neighbour_mask(&table, &degrees, p);
         p += 1;
     }
     masks
