@@ -1,7 +1,7 @@
 // Whether some successor of a position has an entry that is asked for: over sets, and no further than the first that has.
 ghost use mathlib.Core.Path.{_≡_};
 ghost use mathlib.Core.Bool.{true};
-ghost use Prim.Native.Nat.{_+_, _*_, _<_};
+ghost use Prim.Native.Nat.{_+_, _*_};
 ghost use lib.ListN.{length};
 ghost use Rattle.lists.specs.Lists.{any, member};
 ghost use Rattle.sets.specs.Sets.{elements};
@@ -9,21 +9,11 @@ ghost use Rattle.board.specs.Board.{boardOf};
 ghost use Rattle.rules.specs.Ply.{destinations, afterPly, removable, listedMoves, successors};
 ghost use Rattle.plies.specs.Inner.Listing.{listedFrom};
 ghost use Rattle.plies.specs.Inner.Masks.{Masks};
-ghost use Rattle.probing.specs.Inner.Probes.{key, asked};
 ghost use Rattle.probing.specs.Inner.Questions.{Probing, Movable, Removing, entryAsked};
 ghost use Rattle.probing.specs.Inner.Jumping.{Jumping};
 use super::entries;
-use super::entries::Starts;
-
-// The keys of the entries that are not won start here: the lost ones by depth, then void and draw.
-pub const NOT_WON: u32 = 65536;
-
-// The tables of the successors, by where they start, and the keys that are asked for: from low on and below high.
-pub struct Question {
-    pub starts: Starts,
-    pub low: u32,
-    pub high: u32,
-}
+use super::ranges::Question;
+use super::ranges::asked;
 
 // One of the mover's stones, and where it may go.
 pub struct Stone {
@@ -36,25 +26,6 @@ pub struct Jump {
     pub slide: usize,
     pub lifted: board::Position,
     pub walk: ranking::Insertion,
-}
-
-// The key of an entry.
-fn key(entry: u16) -> u32
-    ensures { λ r. ⌜ r ≡ key entry ⌝ }
-{
-    let e = entry as u32;
-    if (e % 2 == 1) & (e < parts::VOID_WIDE) {
-        return e;
-    }
-    NOT_WON + e
-}
-
-// Whether an entry is asked for.
-fn asked(question: Question, entry: u16) -> bool
-    ensures { λ r. ⌜ r ≡ asked (question .low) (question .high) entry ⌝ }
-{
-    let k = key(entry);
-    (question.low <= k) & (k < question.high)
 }
 
 // Whether a listed move leads to a position whose entry is asked for.

@@ -11,10 +11,10 @@ ghost use Rattle.game.specs.Judgement.{hit, decided};
 ghost use Rattle.plies.specs.Inner.Masks.{Masks};
 ghost use Rattle.probing.specs.Inner.Probes.{probe};
 ghost use Rattle.probing.specs.Inner.Questions.{Probing};
-use super::asking::NOT_WON;
-use super::asking::Question;
 use super::asking::some_successor;
 use super::entries::Starts;
+use super::ranges::NOT_WON;
+use super::ranges::Question;
 
 // The key of void, and of a draw.
 const VOID_KEY: u32 = NOT_WON + parts::VOID_WIDE;

@@ -2,8 +2,8 @@
 mod asking;
 mod entries;
 mod judging;
+mod ranges;
 
-pub use asking::Question;
 pub use asking::some_successor;
 pub use entries::Starts;
 pub use entries::entry_after;
@@ -12,3 +12,4 @@ pub use entries::entry_in;
 pub use judging::decided;
 pub use judging::hits;
 pub use judging::void_after;
+pub use ranges::Question;

@@ -11,7 +11,7 @@ use Rattle.sizes.specs.Inner.Binomial.{BinomialTable}
 use Rattle.rules.specs.Ply.{destinations, listedMoves}
 use Rattle.plies.specs.Inner.Masks.{Masks}
 use Rattle.plies.specs.Inner.Positions.{Placed}
-use Rattle.probing.specs.declared.asking.Question.{Question}
+use Rattle.probing.specs.declared.ranges.Question.{Question}
 use Rattle.probing.specs.declared.asking.Stone.{Stone}
 use Rattle.probing.specs.declared.entries.Starts.{Starts}
 use Rattle.probing.specs.Inner.Probes.{probe, StonesLeft, Reads, asked}

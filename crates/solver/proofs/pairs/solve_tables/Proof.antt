@@ -7,6 +7,7 @@ use lib.ListN.{length}
 use Rattle.game.specs.Game.{drawEntry, voidEntry}
 use Rattle.outcomes.specs.Pair.{LowerValid}
 use Rattle.outcomes.specs.Filled.{BothTables, Kept}
+use Rattle.sweeping.specs.declared.tables.Table.{Table}
 use Rattle.solver.specs.Inner.Pairs.{WroteBeyond, PairFound, pairBlocked, pairFilled}
 use Rattle.solver.specs.Inner.Solve.{Setting}
 use Rattle.solver.proofs.PairTables.{first-lies, second-lies, first-fits, second-fits, first-counted, second-counted, pair-kept}
@@ -37,56 +38,74 @@ abbrev μ-loop : tie.MeasureT-loop
 abbrev entered : tie.At-loop Inv-loop μ-loop → tie.Start Inv-loop μ-loop
 entered x = x .before .before .before .before .before .before .before .before .before .before
 
+-- what the call is given, and what it says of a tablebase at entry
+module _ (s : tie.Start Inv-loop μ-loop) where
+  abbrev rings : ℕ
+  rings = s .args .bounds .rings
+
+  abbrev k : ℕ
+  k = s .args .bounds .k
+
+  abbrev limit : ℕ
+  limit = s .args .bounds .limit
+
+  abbrev first : Table
+  first = s .args .tables .first
+
+  abbrev second : Table
+  second = s .args .tables .second
+
+  abbrev Tabled : ℕ → Type 0
+  Tabled n = Setting n rings k (first .mover) (first .opponent) first second
+
+  abbrev Valid : List ℕ → Type 0
+  Valid before = LowerValid rings k (first .mover) (first .opponent) before
+
+  abbrev Mirrored : List ℕ → Type 0
+  Mirrored before = LowerSymmetric (s .args .maps) rings k (first .mover) (first .opponent) before
+
+  abbrev Reached : (before : List ℕ) → Tabled (length before) → Valid before → ℕ → List ℕ → Type 0
+  Reached before w valid level now = State rings k (first .mover) (first .opponent) first second before w valid limit level now
+
+-- the entry of the function, seen from after a level, and the loop, seen from after the search for the next
+abbrev levelling : tie.After-level-pair Inv-loop μ-loop → tie.Start Inv-loop μ-loop
+levelling c = entered (c .before .before .before)
+
+abbrev looping : tie.After-pair-least Inv-loop μ-loop → tie.At-loop Inv-loop μ-loop
+looping c = c .before .before .before .before .before .before .before .before .before .before
+
 -- what holds where the loop begins again
-state : (x : tie.At-loop Inv-loop μ-loop) → (0 < x .loop .level) × State (entered x .args .bounds .rings) (entered x .args .bounds .k) (entered x .args .tables .first .mover)
-    (entered x .args .tables .first .opponent) (entered x .args .tables .first) (entered x .args .tables .second) (entered x .args .tablebase .now)
-    (entered x .pre .1 .setting) (entered x .pre .1 .valid) (entered x .args .bounds .limit) (x .loop .level) (x .loop .tablebase)
+state : (x : tie.At-loop Inv-loop μ-loop) → (0 < x .loop .level)
+    × Reached (entered x) (entered x .args .tablebase .now) (entered x .pre .1 .setting) (entered x .pre .1 .valid) (x .loop .level) (x .loop .tablebase)
 state x =
     let s = entered x in
     let a = s .args in
     x .loop .inv (a .tablebase .now) (s .pre .1 .setting) (s .pre .1 .valid) (s .pre .1 .symmetric)
     (x .before .before .before .sweep-pair .ensures
-    ∙ ap (pairBlocked (a .bounds .rings) (a .tables .first) (a .tables .second))
-    (x .before .before .before .before .before .before .before .fill-tables .ensures))
+    ∙ ap (pairBlocked (rings s) (first s) (second s)) (x .before .before .before .before .before .before .before .fill-tables .ensures))
 
-here : (x : tie.At-loop Inv-loop μ-loop) → Setting (length (x .loop .tablebase)) (entered x .args .bounds .rings) (entered x .args .bounds .k)
-    (entered x .args .tables .first .mover) (entered x .args .tables .first .opponent) (entered x .args .tables .first) (entered x .args .tables .second)
+here : (x : tie.At-loop Inv-loop μ-loop) → Tabled (entered x) (length (x .loop .tablebase))
 here x = setting-now (length (x .loop .tablebase)) (state x .1 .kept .same-length) (entered x .pre .1 .setting)
 
 -- a level is done, over any tablebase at entry
-module _ (c : tie.After-level-pair Inv-loop μ-loop) (before : List ℕ)
-    (s : Setting (length before) (entered (c .before .before .before) .args .bounds .rings) (entered (c .before .before .before) .args .bounds .k)
-    (entered (c .before .before .before) .args .tables .first .mover) (entered (c .before .before .before) .args .tables .first .opponent)
-    (entered (c .before .before .before) .args .tables .first) (entered (c .before .before .before) .args .tables .second))
-    (valid : LowerValid (entered (c .before .before .before) .args .bounds .rings) (entered (c .before .before .before) .args .bounds .k)
-    (entered (c .before .before .before) .args .tables .first .mover) (entered (c .before .before .before) .args .tables .first .opponent) before)
-    (mirrored : LowerSymmetric (entered (c .before .before .before) .args .maps) (entered (c .before .before .before) .args .bounds .rings)
-    (entered (c .before .before .before) .args .bounds .k)
-    (entered (c .before .before .before) .args .tables .first .mover) (entered (c .before .before .before) .args .tables .first .opponent) before)
-    (st : State (entered (c .before .before .before) .args .bounds .rings) (entered (c .before .before .before) .args .bounds .k)
-    (entered (c .before .before .before) .args .tables .first .mover) (entered (c .before .before .before) .args .tables .first .opponent)
-    (entered (c .before .before .before) .args .tables .first) (entered (c .before .before .before) .args .tables .second) before s valid
-    (entered (c .before .before .before) .args .bounds .limit) (c .before .before .before .loop .level) (c .before .before .before .loop .tablebase)) where
-  levelled : Kept (entered (c .before .before .before) .args .bounds .rings) (entered (c .before .before .before) .args .bounds .k)
-      (BothTables (entered (c .before .before .before) .args .tables .first .mover) (entered (c .before .before .before) .args .tables .first .opponent)) before
+module _ (c : tie.After-level-pair Inv-loop μ-loop) (before : List ℕ) (w : Tabled (levelling c) (length before)) (valid : Valid (levelling c) before)
+    (mirrored : Mirrored (levelling c) before)
+    (st : Reached (levelling c) before w valid (c .before .before .before .loop .level) (c .before .before .before .loop .tablebase)) where
+  levelled : Kept (rings (levelling c)) (k (levelling c)) (BothTables (first (levelling c) .mover) (first (levelling c) .opponent)) before
       (c .level-pair .last .0)
-      × ExactBelow (entered (c .before .before .before) .args .bounds .rings) (entered (c .before .before .before) .args .bounds .k)
-      (entered (c .before .before .before) .args .tables .first .mover) (entered (c .before .before .before) .args .tables .first .opponent)
-      (entered (c .before .before .before) .args .tables .first) (entered (c .before .before .before) .args .tables .second) before s valid
-      (suc (c .before .before .before .loop .level)) (c .level-pair .last .0)
+      × ExactBelow (rings (levelling c)) (k (levelling c)) (first (levelling c) .mover) (first (levelling c) .opponent) (first (levelling c))
+      (second (levelling c)) before w valid (suc (c .before .before .before .loop .level)) (c .level-pair .last .0)
   levelled =
       let x = c .before .before .before in
-      let a = entered x .args in
-      let g = group-of (a .maps) (entered x .pre .1 .used) in
-      after-classes (a .bounds .rings) (a .bounds .k) (a .tables .first .mover) (a .tables .first .opponent) (a .tables .first) (a .tables .second) before s valid (a .maps) g mirrored
-      (leastOfClass (a .bounds .rings) (a .maps)) (least-picks (λ b. moverSet b) (a .bounds .rings) (s .pair .small) (a .maps) g) (x .loop .level)
-      (state x .0) (c .before .before .loop-test .taken) (a .bounds .limit) (x .loop .tablebase) st (c .level-pair .last .0) (c .level-pair .ensures)
+      let s = entered x in
+      let maps : ℕ = s .args .maps in
+      let g = group-of maps (s .pre .1 .used) in
+      after-classes (rings s) (k s) (first s .mover) (first s .opponent) (first s) (second s) before w valid maps g mirrored
+      (leastOfClass (rings s) maps) (least-picks (λ b. moverSet b) (rings s) (w .pair .small) maps g) (x .loop .level)
+      (state x .0) (c .before .before .loop-test .taken) (limit s) (x .loop .tablebase) st (c .level-pair .last .0) (c .level-pair .ensures)
 
 -- the tables are where they were
-there : (c : tie.After-level-pair Inv-loop μ-loop) → Setting (length (c .level-pair .last .0)) (entered (c .before .before .before) .args .bounds .rings)
-    (entered (c .before .before .before) .args .bounds .k) (entered (c .before .before .before) .args .tables .first .mover)
-    (entered (c .before .before .before) .args .tables .first .opponent) (entered (c .before .before .before) .args .tables .first)
-    (entered (c .before .before .before) .args .tables .second)
+there : (c : tie.After-level-pair Inv-loop μ-loop) → Tabled (levelling c) (length (c .level-pair .last .0))
 there c =
     let x = c .before .before .before in
     let s = entered x in
@@ -102,19 +121,17 @@ sweep-pair-requires c κs =
     let f = c .before .before .before in
     let s = f .before .before .before in
     let a = s .args in
-    let w = setting-now (length (f .fill-tables .last .0)) (ap length (f .fill-tables .ensures)
-    ∙ pair-kept (a .bounds .rings) (a .bounds .k) (a .tables .first .mover) (a .tables .first .opponent) (a .tables .first) (a .tables .second) (a .tablebase .now) (s .pre .1 .setting) drawEntry
-    .same-length)
-    (s .pre .1 .setting) in
+    let e = pair-kept (rings s) (k s) (first s .mover) (first s .opponent) (first s) (second s) (a .tablebase .now) (s .pre .1 .setting) drawEntry in
+    let w = setting-now (length (f .fill-tables .last .0)) (ap length (f .fill-tables .ensures) ∙ e .same-length) (s .pre .1 .setting) in
     (s .pre .0, (first-lies w, second-lies w))
 
 loop-holds : tie.Need-loop-holds Inv-loop μ-loop
 loop-holds c =
-    let a = c .before .before .before .before .before .before .before .before .before .args in
-    λ before s valid mirrored e. (
+    let s = c .before .before .before .before .before .before .before .before .before in
+    λ before w valid mirrored e. (
       omega arith,
-      after-blocked (a .bounds .rings) (a .bounds .k) (a .tables .first .mover) (a .tables .first .opponent) (a .tables .first) (a .tables .second) before s valid (a .bounds .limit) _
-          (state-start (a .bounds .rings) (a .bounds .k) (a .tables .first .mover) (a .tables .first .opponent) (a .tables .first) (a .tables .second) before s valid (a .bounds .limit)) _ e,
+      after-blocked (rings s) (k s) (first s .mover) (first s .opponent) (first s) (second s) before w valid (limit s) _
+          (state-start (rings s) (k s) (first s .mover) (first s .opponent) (first s) (second s) before w valid (limit s)) _ e,
     )
 
 level-pair-requires : tie.Need-level-pair-requires Inv-loop μ-loop
@@ -149,13 +166,11 @@ returns c =
     let s = entered x in
     let a = s .args in
     let w = levelled l (a .tablebase .now) (s .pre .1 .setting) (s .pre .1 .valid) (s .pre .1 .symmetric) (state x .1) in
-    voided (a .bounds .rings) (a .bounds .k) (a .tables .first .mover) (a .tables .first .opponent) (a .tables .first) (a .tables .second) (a .tablebase .now) (l .level-pair .last .0)
-    (c .before .before .fill-tables2 .last .0) (s .pre .1 .setting) (w .0) (a .bounds .limit) _
-    (beyond-limit (a .bounds .rings) (a .bounds .k) (a .tables .first .mover) (a .tables .first .opponent) (a .tables .first) (a .tables .second) (a .tablebase .now) (s .pre .1 .setting)
-    (s .pre .1 .valid) (a .bounds .limit) (x .loop .level) (state x .0) (l .before .before .loop-test .taken) (x .loop .tablebase) (state x .1)
-    (l .level-pair .last .0) (w .1)
-    (subst (WroteBeyond (a .tables .first) (a .tables .second) (a .bounds .limit) (x .loop .level) (l .level-pair .last .0)) (t .if1 .taken)
-    (t .before .beyond .ensures)))
+    voided (rings s) (k s) (first s .mover) (first s .opponent) (first s) (second s) (a .tablebase .now) (l .level-pair .last .0)
+    (c .before .before .fill-tables2 .last .0) (s .pre .1 .setting) (w .0) (limit s) _
+    (beyond-limit (rings s) (k s) (first s .mover) (first s .opponent) (first s) (second s) (a .tablebase .now) (s .pre .1 .setting)
+    (s .pre .1 .valid) (limit s) (x .loop .level) (state x .0) (l .before .before .loop-test .taken) (x .loop .tablebase) (state x .1)
+    (l .level-pair .last .0) (w .1) (subst (WroteBeyond (first s) (second s) (limit s) (x .loop .level) (l .level-pair .last .0)) (t .if1 .taken) (t .before .beyond .ensures)))
     (c .before .before .fill-tables2 .ensures)
 
 same-length : tie.Need-same-length Inv-loop μ-loop
@@ -170,44 +185,27 @@ add-level : tie.Need-add-level Inv-loop μ-loop
 add-level c =
     let l = c .before .before .before .before .before .before .before in
     let x = l .before .before .before in
-    let a = entered x .args in
-    omega (arith, c .pair-least .ensures, least-void (a .tables .first) (a .tables .second) (x .loop .level) (l .level-pair .last .0))
+    let s = entered x in
+    omega (arith, c .pair-least .ensures, least-void (first s) (second s) (x .loop .level) (l .level-pair .last .0))
 
 -- one level more
-stepped : (c : tie.After-pair-least Inv-loop μ-loop) (before : List ℕ)
-    (s : Setting (length before) (entered (c .before .before .before .before .before .before .before .before .before .before) .args .bounds .rings)
-    (entered (c .before .before .before .before .before .before .before .before .before .before) .args .bounds .k)
-    (entered (c .before .before .before .before .before .before .before .before .before .before) .args .tables .first .mover)
-    (entered (c .before .before .before .before .before .before .before .before .before .before) .args .tables .first .opponent)
-    (entered (c .before .before .before .before .before .before .before .before .before .before) .args .tables .first)
-    (entered (c .before .before .before .before .before .before .before .before .before .before) .args .tables .second))
-    (valid : LowerValid (entered (c .before .before .before .before .before .before .before .before .before .before) .args .bounds .rings)
-    (entered (c .before .before .before .before .before .before .before .before .before .before) .args .bounds .k)
-    (entered (c .before .before .before .before .before .before .before .before .before .before) .args .tables .first .mover)
-    (entered (c .before .before .before .before .before .before .before .before .before .before) .args .tables .first .opponent) before)
-    → LowerSymmetric (entered (c .before .before .before .before .before .before .before .before .before .before) .args .maps)
-    (entered (c .before .before .before .before .before .before .before .before .before .before) .args .bounds .rings)
-    (entered (c .before .before .before .before .before .before .before .before .before .before) .args .bounds .k)
-    (entered (c .before .before .before .before .before .before .before .before .before .before) .args .tables .first .mover)
-    (entered (c .before .before .before .before .before .before .before .before .before .before) .args .tables .first .opponent) before
-    → State _ _ _ _ _ _ before s valid (entered (c .before .before .before .before .before .before .before .before .before .before) .args .bounds .limit)
-    (c .before .before .before .before .before .before .before .before .before .before .loop .level)
-    (c .before .before .before .before .before .before .before .before .before .before .loop .tablebase)
-    → (c .before .before .before .before .before .before .before .before .before .before .loop .level < 1 + c .pair-least .result)
-    × State _ _ _ _ _ _ before s valid (entered (c .before .before .before .before .before .before .before .before .before .before) .args .bounds .limit)
-    (1 + c .pair-least .result) (c .before .before .before .before .before .before .before .level-pair .last .0)
-stepped c before s valid mirrored st =
+stepped : (c : tie.After-pair-least Inv-loop μ-loop) (before : List ℕ) (w : Tabled (entered (looping c)) (length before))
+    (valid : Valid (entered (looping c)) before) → Mirrored (entered (looping c)) before
+    → Reached (entered (looping c)) before w valid (looping c .loop .level) (looping c .loop .tablebase)
+    → (looping c .loop .level < 1 + c .pair-least .result)
+    × Reached (entered (looping c)) before w valid (1 + c .pair-least .result)
+    (c .before .before .before .before .before .before .before .level-pair .last .0)
+stepped c before w valid mirrored st =
     let e = c .before .before in
     let l = e .before .before .before .before .before in
     let x = l .before .before .before in
-    let a = entered x .args in
-    let w = levelled l before s valid mirrored st in
-    state-next (a .bounds .rings) (a .bounds .k) (a .tables .first .mover) (a .tables .first .opponent) (a .tables .first) (a .tables .second) before s valid (a .bounds .limit) (x .loop .level) (state x .0)
-    (l .before .before .loop-test .taken) (l .level-pair .last .0) (w .0) (w .1)
-    (within-limit (a .bounds .rings) (a .bounds .k) (a .tables .first .mover) (a .tables .first .opponent) (a .tables .first) (a .tables .second) before s valid (a .bounds .limit) (x .loop .level) (state x .0)
-    (l .before .before .loop-test .taken) (x .loop .tablebase) st (l .level-pair .last .0) (w .1)
-    (subst (WroteBeyond (a .tables .first) (a .tables .second) (a .bounds .limit) (x .loop .level) (l .level-pair .last .0)) (e .if1 .left)
-    (e .before .beyond .ensures)))
+    let s = entered x in
+    let d = levelled l before w valid mirrored st in
+    state-next (rings s) (k s) (first s .mover) (first s .opponent) (first s) (second s) before w valid (limit s) (x .loop .level) (state x .0)
+    (l .before .before .loop-test .taken) (l .level-pair .last .0) (d .0) (d .1)
+    (within-limit (rings s) (k s) (first s .mover) (first s .opponent) (first s) (second s) before w valid (limit s) (x .loop .level) (state x .0)
+    (l .before .before .loop-test .taken) (x .loop .tablebase) st (l .level-pair .last .0) (d .1)
+    (subst (WroteBeyond (first s) (second s) (limit s) (x .loop .level) (l .level-pair .last .0)) (e .if1 .left) (e .before .beyond .ensures)))
     (1 + c .pair-least .result) (omega (arith, c .pair-least .ensures))
 
 loop-less : tie.Need-loop-less Inv-loop μ-loop
@@ -220,7 +218,7 @@ loop-less c =
 
 loop-again : tie.Need-loop-again Inv-loop μ-loop
 loop-again c =
-    let x = c .before .before .before .before .before .before .before .before .before .before in
+    let x = looping c in
     λ before s valid mirrored e. let n = stepped c before s valid mirrored (x .loop .inv before s valid mirrored e .1) in (omega (arith, n .0), n .1)
 
 same-length-2 : tie.Need-same-length-2 Inv-loop μ-loop
@@ -231,8 +229,8 @@ returns-2 c =
     let x = c .before .before in
     let s = entered x in
     let a = s .args in
-    all-true (a .bounds .rings) (a .bounds .k) (a .tables .first .mover) (a .tables .first .opponent) (a .tables .first) (a .tables .second) (a .tablebase .now)
-    (s .pre .1 .setting) (s .pre .1 .valid) (a .bounds .limit) (x .loop .level) (x .loop .tablebase) (state x .1) (state x .1 .over (c .if2 .taken))
+    all-true (rings s) (k s) (first s .mover) (first s .opponent) (first s) (second s) (a .tablebase .now)
+    (s .pre .1 .setting) (s .pre .1 .valid) (limit s) (x .loop .level) (x .loop .tablebase) (state x .1) (state x .1 .over (c .if2 .taken))
 
 pair-decided-requires : tie.Need-pair-decided-requires Inv-loop μ-loop
 pair-decided-requires c κs =
@@ -250,12 +248,12 @@ returns-3 c =
     let x = t .before .before .before .before .before in
     let s = entered x in
     let a = s .args in
-    voided (a .bounds .rings) (a .bounds .k) (a .tables .first .mover) (a .tables .first .opponent) (a .tables .first) (a .tables .second) (a .tablebase .now) (x .loop .tablebase)
-    (c .before .before .fill-tables3 .last .0) (s .pre .1 .setting) (state x .1 .kept) (a .bounds .limit) _
-    (one-decided (a .bounds .rings) (a .bounds .k) (a .tables .first .mover) (a .tables .first .opponent) (a .tables .first) (a .tables .second) (a .tablebase .now)
-    (s .pre .1 .setting) (s .pre .1 .valid) (a .bounds .limit) (x .loop .level) (x .loop .tablebase) (state x .1)
+    voided (rings s) (k s) (first s .mover) (first s .opponent) (first s) (second s) (a .tablebase .now) (x .loop .tablebase)
+    (c .before .before .fill-tables3 .last .0) (s .pre .1 .setting) (state x .1 .kept) (limit s) _
+    (one-decided (rings s) (k s) (first s .mover) (first s .opponent) (first s) (second s) (a .tablebase .now)
+    (s .pre .1 .setting) (s .pre .1 .valid) (limit s) (x .loop .level) (x .loop .tablebase) (state x .1)
     (omega (arith, t .before .before .before .before .loop-test .left, s .pre .1 .limit-low)) (omega (arith, t .before .before .before .if2 .left))
-    (subst (PairFound (a .bounds .rings) (a .tables .first) (a .tables .second) (x .loop .tablebase)) (t .if3 .taken) (t .before .pair-decided .ensures)))
+    (subst (PairFound (rings s) (first s) (second s) (x .loop .tablebase)) (t .if3 .taken) (t .before .pair-decided .ensures)))
     (c .before .before .fill-tables3 .ensures)
 
 same-length-3 : tie.Need-same-length-3 Inv-loop μ-loop
@@ -269,10 +267,10 @@ returns-4 c =
     let x = c .before .before .before .before .before in
     let s = entered x in
     let a = s .args in
-    nothing-decided (a .bounds .rings) (a .bounds .k) (a .tables .first .mover) (a .tables .first .opponent) (a .tables .first) (a .tables .second) (a .tablebase .now)
-    (s .pre .1 .setting) (s .pre .1 .valid) (a .bounds .limit) (x .loop .level) (x .loop .tablebase) (state x .1)
+    nothing-decided (rings s) (k s) (first s .mover) (first s .opponent) (first s) (second s) (a .tablebase .now)
+    (s .pre .1 .setting) (s .pre .1 .valid) (limit s) (x .loop .level) (x .loop .tablebase) (state x .1)
     (omega (arith, c .before .before .before .before .loop-test .left, s .pre .1 .limit-low)) (omega (arith, c .before .before .before .if2 .left))
-    (subst (PairFound (a .bounds .rings) (a .tables .first) (a .tables .second) (x .loop .tablebase)) (c .if3 .left) (c .before .pair-decided .ensures))
+    (subst (PairFound (rings s) (first s) (second s) (x .loop .tablebase)) (c .if3 .left) (c .before .pair-decided .ensures))
 
 pub solve-tables-spec : {M : Type 1} → statement M
 solve-tables-spec =

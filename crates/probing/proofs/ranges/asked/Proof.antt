@@ -1,12 +1,12 @@
--- `probing::asking::asked` meets its contract. Assumes nothing.
+-- `probing::ranges::asked` meets its contract. Assumes nothing.
 use mathlib.Core.Path.{sym, ap, _∙_}
 use mathlib.Core.Bool.{_&&_}
 use Prim.Native.Nat.{ℕ}
 use lib.Dec.{leb, ltb}
 use Rattle.probing.proofs.Keys.{asked-is}
 use borrow.Author.Needs.{needs}
-use Rattle.probing.proofs.asking.asked.Statement.{statement}
-use Rattle.probing.proofs.asking.asked.Tie as tie
+use Rattle.probing.proofs.ranges.asked.Statement.{statement}
+use Rattle.probing.proofs.ranges.asked.Tie as tie
 
 key-requires : tie.Need-key-requires
 key-requires c κs = search needs

@@ -1,9 +1,9 @@
--- `probing::asking::key` meets its contract. Assumes nothing.
+-- `probing::ranges::key` meets its contract. Assumes nothing.
 use mathlib.Core.Path.{sym}
 use Rattle.probing.proofs.Keys.{key-won, key-other}
 use borrow.Author.Needs.{needs}
-use Rattle.probing.proofs.asking.key.Statement.{statement}
-use Rattle.probing.proofs.asking.key.Tie as tie
+use Rattle.probing.proofs.ranges.key.Statement.{statement}
+use Rattle.probing.proofs.ranges.key.Tie as tie
 
 returns : tie.Need-returns
 returns c = sym (key-won (c .before .args .entry) (c .if1 .taken))
