@@ -109,6 +109,14 @@ neighbour-low p j h =
     let r : getD (neighbours 3 p) j 0 < 0 + 24 = range-member 24 0 (m .0) .1 in
     subst (λ (n : ℕ). getD (neighbours 3 p) j 0 < n) (zero-add 24) r
 
+-- and at least two
+someAt : ℕ → Bool
+someAt p = leb 2 (length (neighbours 3 p))
+
+pub neighbours-some : (p : ℕ) → p < 24 → 2 ≤ length (neighbours 3 p)
+unfolding someAt neighbours adjoin follows inward points
+neighbours-some p h = leb-true _ _ (every-at 24 someAt refl p h)
+
 -- how many mills a board has
 pub all-mills : (rings : ℕ) → rings ≡ 3 → 16 ≡ length (mills rings)
 unfolding mills ringMills crossMills

@@ -74,19 +74,22 @@ fn mills_placed(rings: usize) -> [u32; 72]
     masks
 }
 
-// The neighbours of one point on three rings.
+// The neighbours of one point on three rings: two, three or four.
 fn neighbour_mask(table: &[usize; 96], degrees: &[usize; 24], p: usize) -> u32
     requires { ⌜ NeighbourTable (now table) × DegreeTable (now degrees) × (p < 24) ⌝ }
     ensures { λ r. ⌜ r ≡ setFrom (neighbours 3 p) ⌝ }
 {
     let degree = board::degree(degrees, p);
-    let mut s: u32 = 0;
-    let mut j = 0;
-    while j < degree {
-        s = sets::with(s, board::neighbour(table, p, j));
-        j += 1;
+    let first = sets::with(0, board::neighbour(table, p, 0));
+    let two = sets::with(first, board::neighbour(table, p, 1));
+    if degree == 2 {
+        return two;
     }
-    s
+    let three = sets::with(two, board::neighbour(table, p, 2));
+    if degree == 3 {
+        return three;
+    }
+    sets::with(three, board::neighbour(table, p, 3))
 }
 
 // The points of a board.
