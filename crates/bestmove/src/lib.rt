@@ -59,7 +59,8 @@ fn with_entry(
 ) -> Best
     requires { ⌜ Probing (now binomials) (length (now tablebase)) rings starts position ⌝ }
     requires { ⌜ member number (listedMoves rings (boardOf (8 * rings) position)) ≡ true ⌝ }
-    ensures { λ r. ⌜ (r .number ≡ number) × (r .entry ≡ entryBy (now (tablebase .entry)) (starts .same) (starts .fewer) (boardOf (8 * rings) position) number) ⌝ }
+    ensures { λ r. ⌜ (r .number ≡ number) × (r .entry ≡ entryBy (now (tablebase .entry)) (starts .same) (starts .fewer) (boardOf
+        (8 * rings) position) number) ⌝ }
 {
     Best {
         number: number,
@@ -87,7 +88,8 @@ fn best_of(
     requires { ⌜ (1 ≤ length (now moves)) × (now moves ≡ listedMoves rings (boardOf (8 * rings) position)) ⌝ }
     ensures number { λ r. ⌜ r .number ≡ bestMove (λ m. entryBy (now (tablebase .entry)) (starts .same) (starts .fewer) (boardOf (8 * rings) position) m)
         (listedMoves rings (boardOf (8 * rings) position)) ⌝ }
-    ensures entry { λ r. ⌜ r .entry ≡ bestEntry (map (λ m. entryBy (now (tablebase .entry)) (starts .same) (starts .fewer) (boardOf (8 * rings) position) m)
+    ensures entry { λ r. ⌜ r .entry ≡ bestEntry (map (λ m. entryBy (now (tablebase .entry)) (starts .same) (starts .fewer) (boardOf
+        (8 * rings) position) m)
         (listedMoves rings (boardOf (8 * rings) position))) ⌝ }
 {
     let mut best = with_entry(tablebase, binomials, rings, starts, position, moves[0]);
@@ -113,7 +115,8 @@ pub fn best_move(
     requires { ⌜ Choosing rings (now masks) position ⌝ }
     ensures number { λ r. ⌜ r .number ≡ bestMove (λ m. entryBy (now (tablebase .entry)) (starts .same) (starts .fewer) (boardOf (8 * rings) position) m)
         (listedMoves rings (boardOf (8 * rings) position)) ⌝ }
-    ensures entry { λ r. ⌜ r .entry ≡ bestEntry (map (λ m. entryBy (now (tablebase .entry)) (starts .same) (starts .fewer) (boardOf (8 * rings) position) m)
+    ensures entry { λ r. ⌜ r .entry ≡ bestEntry (map (λ m. entryBy (now (tablebase .entry)) (starts .same) (starts .fewer) (boardOf
+        (8 * rings) position) m)
         (listedMoves rings (boardOf (8 * rings) position))) ⌝ }
 {
     let mut list = [0u16; MOVES_MAX];

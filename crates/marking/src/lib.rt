@@ -47,7 +47,8 @@ fn mark_put(
 )
     requires { ⌜ Putting (now binomials) (length (now tablebase)) rings part base theirs points ⌝ }
     ensures { λ _. ⌜ now (tablebase .exit)
-        ≡ marked (places (part .start) (map (λ p. set (boardOf (8 * rings) base) p (suc (digit theirs))) (elements 32 points))) (now (tablebase .entry)) ⌝ }
+        ≡ marked (places (part .start) (map (λ p. set (boardOf (8 * rings) base) p (suc (digit theirs))) (elements 32 points))) (now
+        (tablebase .entry)) ⌝ }
 {
     if points != 0 {
         let mut walk = ranking::begin(binomials, 8 * rings, base, theirs, sets::lowest(points));
@@ -103,7 +104,8 @@ fn mark_each_origin(
     requires { ⌜ Returning (now binomials) (length (now tablebase)) rings back position ⌝ }
     requires { ⌜ (bit (position .opponent) to ≡ 1) × VacantAll rings position froms ⌝ }
     ensures { λ _. ⌜ now (tablebase .exit)
-        ≡ marked (places (back .part .start) (each (λ from. restored (back .capture) rings (boardOf (8 * rings) position) to from) (elements 32 froms))) (now (tablebase .entry)) ⌝ }
+        ≡ marked (places (back .part .start) (each (λ from. restored (back .capture) rings (boardOf (8 * rings) position) to from)
+        (elements 32 froms))) (now (tablebase .entry)) ⌝ }
 {
     let mut left = froms;
     while left != 0 {
@@ -126,7 +128,8 @@ fn mark_origins(
     requires { ⌜ Returning (now binomials) (length (now tablebase)) rings back position ⌝ }
     requires { ⌜ (bit (position .opponent) to ≡ 1) × VacantAll rings position froms ⌝ }
     ensures { λ _. ⌜ now (tablebase .exit)
-        ≡ marked (places (back .part .start) (each (λ from. restored (back .capture) rings (boardOf (8 * rings) position) to from) (elements 32 froms))) (now (tablebase .entry)) ⌝ }
+        ≡ marked (places (back .part .start) (each (λ from. restored (back .capture) rings (boardOf (8 * rings) position) to from)
+        (elements 32 froms))) (now (tablebase .entry)) ⌝ }
 {
     if back.capture | (sets::count(froms) <= ranking::WALK_PAYS_ABOVE) {
         mark_each_origin(tablebase, binomials, rings, back, position, to, froms);

@@ -68,7 +68,8 @@ pub fn entry_after_move(
 ) -> u16
     requires { ⌜ Probing (now binomials) (length (now tablebase)) rings starts position ⌝ }
     requires { ⌜ member number (listedMoves rings (boardOf (8 * rings) position)) ≡ true ⌝ }
-    ensures { λ r. ⌜ r ≡ probe (now (tablebase .entry)) (starts .same) (starts .fewer) (count 2 (boardOf (8 * rings) position)) (afterPly (boardOf (8 * rings) position) number) ⌝ }
+    ensures { λ r. ⌜ r ≡ probe (now (tablebase .entry)) (starts .same) (starts .fewer) (count 2 (boardOf (8 * rings) position)) (afterPly (boardOf
+        (8 * rings) position) number) ⌝ }
 {
     let opponent = sets::count(position.opponent) as usize;
     let after = plies::after_ply(rings, position, number);

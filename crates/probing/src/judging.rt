@@ -38,7 +38,8 @@ pub fn hits(
     requires { ⌜ Probing (now binomials) (length (now tablebase)) rings starts position ⌝ }
     requires { ⌜ Masks rings (now masks) × (level < voidEntry) ⌝ }
     ensures { λ r. ⌜ r ≡ hit (λ b. successors (λ n c. removable n c) rings b)
-        (λ b. probe (now (tablebase .entry)) (starts .same) (starts .fewer) (count 2 (boardOf (8 * rings) position)) b) level (boardOf (8 * rings) position) ⌝ }
+        (λ b. probe (now (tablebase .entry)) (starts .same) (starts .fewer) (count 2 (boardOf (8 * rings) position)) b) level (boardOf
+        (8 * rings) position) ⌝ }
 {
     if level % 2 == 1 {
         let high = NOT_WON + level;
@@ -99,7 +100,8 @@ pub fn void_after(
 ) -> bool
     requires { ⌜ Probing (now binomials) (length (now tablebase)) rings starts position ⌝ }
     requires { ⌜ Masks rings (now masks) ⌝ }
-    ensures { λ r. ⌜ r ≡ any (λ b. eqb (probe (now (tablebase .entry)) (starts .same) (starts .fewer) (count 2 (boardOf (8 * rings) position)) b) voidEntry)
+    ensures { λ r. ⌜ r ≡ any (λ b. eqb (probe (now (tablebase .entry)) (starts .same) (starts .fewer) (count 2 (boardOf
+        (8 * rings) position)) b) voidEntry)
         (successors (λ n c. removable n c) rings (boardOf (8 * rings) position)) ⌝ }
 {
     let void = Question {

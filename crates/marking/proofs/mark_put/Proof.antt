@@ -53,7 +53,8 @@ module _ (s : tie.Start Inv-loop μ-loop) where
       let a = s .args in
       let l : length board ≤ 24 = omega (arith, length-board (8 * a .rings) (a .base), few) in
       let h = put-low board (board-values (8 * a .rings) (a .base) (s .pre .placed .on)) l (a .theirs) p v in
-      let e = ap (λ (n : ℕ). size n (count 1 board + (1 - digit (a .theirs))) (count 2 board + digit (a .theirs))) (length-board (8 * a .rings) (a .base)) in
+      let e = ap (λ (n : ℕ). size n (count 1 board + (1 - digit (a .theirs))) (count 2 board + digit (a .theirs))) (length-board (8 * a .rings)
+      (a .base)) in
       omega (arith, h, e, s .pre .room .whole)
 
 mul-begin : tie.Need-mul-begin Inv-loop μ-loop
@@ -83,10 +84,12 @@ take-lowest-requires : tie.Need-take-lowest-requires Inv-loop μ-loop
 take-lowest-requires c κs = c .loop-test .taken
 
 -- it is vacant
-free : (c : tie.After-take-lowest Inv-loop μ-loop) → Vacant (board (c .before .before .before .before .before .before .before)) (c .take-lowest .result .lowest)
+free : (c : tie.After-take-lowest Inv-loop μ-loop) → Vacant (board (c .before .before .before .before .before .before .before))
+    (c .take-lowest .result .lowest)
 free c =
     let x = c .before .before in
-    vacant (x .before .before .before .before .before) (c .take-lowest .result .lowest) (x .loop .inv .0 .among (c .take-lowest .result .lowest) (c .take-lowest .ensures .member))
+    vacant (x .before .before .before .before .before) (c .take-lowest .result .lowest) (x .loop .inv .0 .among (c .take-lowest .result .lowest)
+    (c .take-lowest .ensures .member))
 
 mul-go-to : tie.Need-mul-go-to Inv-loop μ-loop
 mul-go-to c = omega (arith, few (c .before .before .before .before .before .before .before))
@@ -142,7 +145,8 @@ loop-again c =
     let p : ℕ = l .take-lowest .result .lowest in
     let t = l .take-lowest .ensures in
     let n : r .rank-at .result ≡ rank (put s p) = r .rank-at .ensures ∙ ap (λ (q : ℕ). rank (put s q)) (g .go-to .ensures .0) in (
-      marking-more (a .part .start) (λ q. put s q ∷ []) (a .tablebase .now) (a .points) (x .loop .tablebase) (x .loop .left) p (l .take-lowest .result .rest) _
+      marking-more (a .part .start) (λ q. put s q ∷ []) (a .tablebase .now) (a .points) (x .loop .tablebase) (x .loop .left) p
+          (l .take-lowest .result .rest) _
           (x .loop .inv .0) t
           (m .mark-entry .ensures ∙ sym (mark-is (a .part .start + r .rank-at .result) (x .loop .tablebase))
           ∙ ap (λ (i : ℕ). markAt (a .part .start + i) (x .loop .tablebase)) n ∙ sym (marked-one (a .part .start + rank (put s p)) (x .loop .tablebase))),
@@ -171,7 +175,8 @@ returns-2 : tie.Need-returns-2 Inv-loop μ-loop
 returns-2 c =
     let s = c .before .before in
     let a = s .args in
-    all s (a .tablebase .now) (a .points) (marking-none (a .part .start) (λ p. put s p ∷ []) (a .tablebase .now) (a .points) (s .fits .points .fits)) (c .if1 .left)
+    all s (a .tablebase .now) (a .points) (marking-none (a .part .start) (λ p. put s p ∷ []) (a .tablebase .now) (a .points)
+    (s .fits .points .fits)) (c .if1 .left)
 
 pub mark-put-spec : {M : Type 1} → statement M
 mark-put-spec =

@@ -28,8 +28,16 @@ image-set-requires : tie.Need-image-set-requires Inv-loop μ-loop
 image-set-requires c κs =
     let s = c .before .before in
     let a = s .args in
-    let p = s .pre in
-    (p .images, (p .small, omega (arith, p .few, c .loop-test .taken), p .on .mover-within, within-all (a .maps .rings) _ (p .small) (p .on .mover-within)))
+    let p = s .pre in (
+      p .images,
+      (
+        p .small,
+        omega (arith, p .few, c .loop-test .taken),
+        p .on .mover-within,
+        within-all (a .maps .rings) _ (p .small)
+            (p .on .mover-within),
+      ),
+    )
 
 returns : tie.Need-returns Inv-loop μ-loop
 returns c =
@@ -39,7 +47,8 @@ returns c =
     let a = s .args in
     let p = s .pre in
     let t = i .before .loop-test .taken in
-    let e = number-image (a .maps .rings) (p .small) (x .loop .g) (omega (arith, p .few, t)) (a .position) (p .on) (i .image-set .result) (i .image-set .ensures) in
+    let e = number-image (a .maps .rings) (p .small) (x .loop .g) (omega (arith, p .few, t)) (a .position) (p .on) (i .image-set .result)
+    (i .image-set .ensures) in
     one-lower (a .maps .rings) (a .maps .count) (boardOf (8 * a .maps .rings) (a .position)) (x .loop .g) t
     (omega (arith, e, c .if1 .taken, mover-set (8 * a .maps .rings) (a .position) (p .on)))
 
@@ -74,7 +83,8 @@ returns-2 c =
     let x = c .before in
     let s = x .before in
     let a = s .args in
-    no-lower (a .maps .rings) (a .maps .count) (boardOf (8 * a .maps .rings) (a .position)) (λ h l. x .loop .inv (a .position) (s .pre .on) refl h (omega arith))
+    no-lower (a .maps .rings) (a .maps .count) (boardOf (8 * a .maps .rings) (a .position)) (λ h l. x .loop .inv (a .position) (s .pre .on) refl h
+    (omega arith))
 
 pub is-least-spec : {M : Type 1} → statement M
 is-least-spec =

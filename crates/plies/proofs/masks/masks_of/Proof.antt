@@ -37,8 +37,14 @@ mills-placed-requires c κs = search needs
 loop-holds : tie.Need-loop-holds Inv-loop μ-loop
 loop-holds c =
     let e = c .mills-placed .ensures in
-    let s = c .before .before .before .before in
-    (c .before .all-points .ensures, omega arith, ap length e ∙ derived-length (s .args .rings) (s .pre), λ q h. absurd (omega arith), λ k h. ap (λ (l : List ℕ). getD l k 0) e)
+    let s = c .before .before .before .before in (
+      c .before .all-points .ensures,
+      omega arith,
+      ap length e ∙ derived-length (s .args .rings) (s .pre),
+      λ q h. absurd (omega arith),
+      λ k h. ap (λ
+          (l : List ℕ). getD l k 0) e,
+    )
 
 neighbour-mask-requires : tie.Need-neighbour-mask-requires Inv-loop μ-loop
 neighbour-mask-requires c κs = search needs
@@ -60,7 +66,8 @@ loop-again c =
     let x = c .before .before .before .before in
     let s = x .before .before .before .before .before in
     let rings : ℕ = s .args .rings in
-    let e = ap₂ bitAnd (x .loop .inv .0) (c .neighbour-mask .ensures) ∙ neighbours-cut rings (s .pre) (x .loop .p) (c .before .before .before .loop-test .taken) in (
+    let e = ap₂ bitAnd (x .loop .inv .0) (c .neighbour-mask .ensures) ∙ neighbours-cut rings (s .pre) (x .loop .p)
+    (c .before .before .before .loop-test .taken) in (
       x .loop .inv .0,
       omega arith,
       length-set (x .loop .masks) (x .loop .p) _ ∙ x .loop .inv .2,

@@ -14,9 +14,11 @@ use Rattle.plies.proofs.masks.neighbour_mask.Statement.{statement}
 use Rattle.plies.proofs.masks.neighbour_mask.Tie as tie
 
 -- one neighbour more, where the set so far and the neighbours left make the whole
-more : (l : List ℕ) (j s q t : ℕ) → j < length l → q ≡ getD l j 0 → t ≡ with s q → withAll s (drop j l) ≡ setFrom l → withAll t (drop (suc j) l) ≡ setFrom l
+more : (l : List ℕ) (j s q t : ℕ) → j < length l → q ≡ getD l j 0 → t ≡ with s q → withAll s (drop j l) ≡ setFrom l
+    → withAll t (drop (suc j) l) ≡ setFrom l
 more l j s q t h e f w =
-    ap (λ (x : ℕ). withAll x (drop (suc j) l)) (f ∙ ap (with s) e) ∙ sym (with-more s (getD l j 0) (drop (suc j) l)) ∙ ap (withAll s) (sym (drop-cons l j 0 h)) ∙ w
+    ap (λ (x : ℕ). withAll x (drop (suc j) l)) (f ∙ ap (with s) e) ∙ sym (with-more s (getD l j 0) (drop (suc j) l))
+    ∙ ap (withAll s) (sym (drop-cons l j 0 h)) ∙ w
 
 -- none is left
 last : (l : List ℕ) (j s : ℕ) → j ≡ length l → withAll s (drop j l) ≡ setFrom l → s ≡ setFrom l
@@ -32,8 +34,10 @@ two c =
     let p : ℕ = s .args .p in
     let l : List ℕ = neighbours 3 p in
     let some = neighbours-some p (s .pre .2) in
-    more l 1 (w .with .result) (c .before .neighbour2 .result) (c .with2 .result) (omega (arith, some)) (c .before .neighbour2 .ensures) (c .with2 .ensures)
-    (more l 0 0 (w .before .neighbour .result) (w .with .result) (omega (arith, some)) (w .before .neighbour .ensures) (w .with .ensures) (sym (from-is l)))
+    more l 1 (w .with .result) (c .before .neighbour2 .result) (c .with2 .result) (omega (arith, some)) (c .before .neighbour2 .ensures)
+    (c .with2 .ensures)
+    (more l 0 0 (w .before .neighbour .result) (w .with .result) (omega (arith, some)) (w .before .neighbour .ensures) (w .with .ensures) (sym
+    (from-is l)))
 
 -- and a third
 three : (c : tie.After-with3)
@@ -46,7 +50,8 @@ three c =
     let p : ℕ = s .args .p in
     let l : List ℕ = neighbours 3 p in
     more l 2 (t .with2 .result) (c .before .neighbour3 .result) (c .with3 .result)
-    (omega (arith, neighbours-some p (s .pre .2), e .if1 .left, t .before .before .before .before .degree .ensures)) (c .before .neighbour3 .ensures) (c .with3 .ensures)
+    (omega (arith, neighbours-some p (s .pre .2), e .if1 .left, t .before .before .before .before .degree .ensures))
+    (c .before .neighbour3 .ensures) (c .with3 .ensures)
     (two t)
 
 degree-requires : tie.Need-degree-requires
@@ -116,7 +121,8 @@ returns-3 c =
     let t = e .before in
     let l : List ℕ = neighbours 3 (t .before .before .before .before .before .before .before .before .args .p) in
     last l 4 (c .with4 .result) (omega (arith, four e))
-    (more l 3 (t .with3 .result) (c .before .neighbour4 .result) (c .with4 .result) (omega (arith, four e)) (c .before .neighbour4 .ensures) (c .with4 .ensures)
+    (more l 3 (t .with3 .result) (c .before .neighbour4 .result) (c .with4 .result) (omega (arith, four e)) (c .before .neighbour4 .ensures)
+    (c .with4 .ensures)
     (three t))
 
 pub neighbour-mask-spec : {M : Type 1} → statement M

@@ -171,7 +171,8 @@ found : (c : tie.After-some-at Inv-loop μ-loop)
     (slideMoves (λ n b. removable n b) (c .before .before .before .before .before .before .before .before .before .before .before .args .rings)
     (boardOf (8 * c .before .before .before .before .before .before .before .before .before .before .before .args .rings)
     (c .before .before .before .before .before .before .before .before .before .before .before .args .position))
-    (c .before .before .before .before .before .before .before .before .before .before .before .args .stone .from) (c .before .before .before .before .take-lowest .result .lowest))
+    (c .before .before .before .before .before .before .before .before .before .before .before .args .stone .from)
+    (c .before .before .before .before .take-lowest .result .lowest))
 found c =
     let r = c .before .before in
     let l = r .before .before in
@@ -181,7 +182,8 @@ found c =
     c .some-at .ensures
     ∙ ap (λ (n : ℕ). any (λ p. entryAsked (a .tablebase .now) (a .question) b (afterPly b (n + p))) (elements 32 (r .removals .result)))
     (c .before .slide-number .ensures)
-    ∙ some-slide (a .rings) (a .position) (s .pre .0 .placed) _ (a .stone .from) (l .take-lowest .result .lowest) (r .removals .result) (r .removals .ensures)
+    ∙ some-slide (a .rings) (a .position) (s .pre .0 .placed) _ (a .stone .from) (l .take-lowest .result .lowest) (r .removals .result)
+    (r .removals .ensures)
 
 returns : tie.Need-returns Inv-loop μ-loop
 returns c =
@@ -203,7 +205,8 @@ loop-again c =
     let l = g .before in
     let x = l .before .before in
     let t = l .take-lowest .ensures in (
-      sought-more _ (x .before .before .before .before .before .args .stone .tos) (x .loop .left) (l .take-lowest .result .lowest) (l .take-lowest .result .rest)
+      sought-more _ (x .before .before .before .before .before .args .stone .tos) (x .loop .left) (l .take-lowest .result .lowest)
+          (l .take-lowest .result .rest)
           (x .loop .inv .0) t (sym (found m) ∙ c .if1 .left),
       g .go-to .ensures .1,
       λ q e. omega (arith, g .go-to .ensures .0, t .least q (t .among q e)),

@@ -48,7 +48,8 @@ low : (c : tie.After-removals Inv-loop μ-loop)
     → (c .before .before .before .before .before .args .stone .from < 24) × (c .before .take-lowest .result .lowest < 24)
 low c =
     let s = c .before .before .before .before .before in
-    let l = from-low (s .args .rings) (s .args .position) (s .pre .0 .placed) (s .args .stone .from) (c .before .take-lowest .result .lowest) (slides (c .before)) in
+    let l = from-low (s .args .rings) (s .args .position) (s .pre .0 .placed) (s .args .stone .from) (c .before .take-lowest .result .lowest)
+    (slides (c .before)) in
     (omega (arith, l, s .pre .0 .placed .small), omega (arith, slides (c .before) .low, s .pre .0 .placed .small))
 
 -- what is found of the moves to that point
@@ -56,10 +57,13 @@ found : (c : tie.After-some-removal Inv-loop μ-loop)
     → c .some-removal .result
     ≡ any (λ m. entryAsked (c .before .before .before .before .before .before .before .args .tablebase .now)
     (c .before .before .before .before .before .before .before .args .question)
-    (boardOf (8 * c .before .before .before .before .before .before .before .args .rings) (c .before .before .before .before .before .before .before .args .position))
-    (afterPly (boardOf (8 * c .before .before .before .before .before .before .before .args .rings) (c .before .before .before .before .before .before .before .args .position)) m))
+    (boardOf (8 * c .before .before .before .before .before .before .before .args .rings)
+    (c .before .before .before .before .before .before .before .args .position))
+    (afterPly (boardOf (8 * c .before .before .before .before .before .before .before .args .rings)
+    (c .before .before .before .before .before .before .before .args .position)) m))
     (slideMoves (λ n b. removable n b) (c .before .before .before .before .before .before .before .args .rings)
-    (boardOf (8 * c .before .before .before .before .before .before .before .args .rings) (c .before .before .before .before .before .before .before .args .position))
+    (boardOf (8 * c .before .before .before .before .before .before .before .args .rings)
+    (c .before .before .before .before .before .before .before .args .position))
     (c .before .before .before .before .before .before .before .args .stone .from) (c .before .before .before .take-lowest .result .lowest))
 found c =
     let r = c .before .before in
@@ -111,7 +115,8 @@ returns c =
     let l = m .before .before .before in
     let x = l .before .before in
     let s = x .before .before in
-    sought-found _ (s .args .stone .tos) (x .loop .left) (l .take-lowest .result .lowest) (l .take-lowest .result .rest) (x .loop .inv) (l .take-lowest .ensures) (sym (found m) ∙ c .if1 .taken)
+    sought-found _ (s .args .stone .tos) (x .loop .left) (l .take-lowest .result .lowest) (l .take-lowest .result .rest) (x .loop .inv)
+    (l .take-lowest .ensures) (sym (found m) ∙ c .if1 .taken)
     ∙ some-stone (s .args .rings) (s .args .position) (s .pre .0 .placed) _ (s .args .stone .from) (s .args .stone .tos) (s .pre .1 .tos)
 
 loop-less : tie.Need-loop-less Inv-loop μ-loop

@@ -26,10 +26,12 @@ use Rattle.solver.proofs.pairs.solve_tables.Tie as tie
 
 abbrev Inv-loop : tie.InvT-loop
 Inv-loop tablebase₀ binomials masks images bounds maps tables level₀ tablebase level =
-    (before : List ℕ) (s : Setting (length before) (bounds .rings) (bounds .k) (tables .first .mover) (tables .first .opponent) (tables .first) (tables .second))
-    (valid : LowerValid (bounds .rings) (bounds .k) (tables .first .mover) (tables .first .opponent) before) → LowerSymmetric maps (bounds .rings) (bounds .k) (tables .first .mover) (tables .first .opponent) before
+    (before : List ℕ) (s : Setting (length before) (bounds .rings) (bounds .k) (tables .first .mover) (tables .first .opponent) (tables .first)
+    (tables .second)) (valid : LowerValid (bounds .rings) (bounds .k) (tables .first .mover) (tables .first .opponent) before)
+    → LowerSymmetric maps (bounds .rings) (bounds .k) (tables .first .mover) (tables .first .opponent) before
     → tablebase₀ ≡ pairBlocked (bounds .rings) (tables .first) (tables .second) (pairFilled (tables .first) (tables .second) drawEntry before)
-    → (0 < level) × State (bounds .rings) (bounds .k) (tables .first .mover) (tables .first .opponent) (tables .first) (tables .second) before s valid (bounds .limit) level tablebase
+    → (0 < level) × State (bounds .rings) (bounds .k) (tables .first .mover) (tables .first .opponent) (tables .first)
+    (tables .second) before s valid (bounds .limit) level tablebase
 
 abbrev μ-loop : tie.MeasureT-loop
 μ-loop tablebase₀ binomials masks images bounds maps tables level₀ tablebase level = voidEntry - level
@@ -80,8 +82,7 @@ state : (x : tie.At-loop Inv-loop μ-loop) → (0 < x .loop .level)
 state x =
     let s = entered x in
     let a = s .args in
-    x .loop .inv (a .tablebase .now) (s .pre .1 .setting) (s .pre .1 .valid) (s .pre .1 .symmetric)
-    (x .before .before .before .sweep-pair .ensures
+    x .loop .inv (a .tablebase .now) (s .pre .1 .setting) (s .pre .1 .valid) (s .pre .1 .symmetric) (x .before .before .before .sweep-pair .ensures
     ∙ ap (pairBlocked (rings s) (first s) (second s)) (x .before .before .before .before .before .before .before .fill-tables .ensures))
 
 here : (x : tie.At-loop Inv-loop μ-loop) → Tabled (entered x) (length (x .loop .tablebase))
@@ -170,8 +171,8 @@ returns c =
     (c .before .before .fill-tables2 .last .0) (s .pre .1 .setting) (w .0) (limit s) _
     (beyond-limit (rings s) (k s) (first s .mover) (first s .opponent) (first s) (second s) (a .tablebase .now) (s .pre .1 .setting)
     (s .pre .1 .valid) (limit s) (x .loop .level) (state x .0) (l .before .before .loop-test .taken) (x .loop .tablebase) (state x .1)
-    (l .level-pair .last .0) (w .1) (subst (WroteBeyond (first s) (second s) (limit s) (x .loop .level) (l .level-pair .last .0)) (t .if1 .taken) (t .before .beyond .ensures)))
-    (c .before .before .fill-tables2 .ensures)
+    (l .level-pair .last .0) (w .1) (subst (WroteBeyond (first s) (second s) (limit s) (x .loop .level) (l .level-pair .last .0)) (t .if1 .taken)
+    (t .before .beyond .ensures))) (c .before .before .fill-tables2 .ensures)
 
 same-length : tie.Need-same-length Inv-loop μ-loop
 same-length c = returns c .kept .same-length
@@ -274,8 +275,7 @@ returns-4 c =
 
 pub solve-tables-spec : {M : Type 1} → statement M
 solve-tables-spec =
-    tie.close
-    (tie.spec
+    tie.close (tie.spec
     Inv-loop
     μ-loop
     fill-tables-requires

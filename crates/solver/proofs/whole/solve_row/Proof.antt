@@ -60,7 +60,8 @@ solve-pair-requires c κs =
           images = g .images;
         },
         g .used,
-        lower-true-symmetric (a .bounds .rings) (a .bounds .k) (a .m) (x .loop .o) (p .small) (x .loop .tablebase) d (a .maps) (group-of (a .maps) (g .used)),
+        lower-true-symmetric (a .bounds .rings) (a .bounds .k) (a .m) (x .loop .o) (p .small) (x .loop .tablebase) d (a .maps) (group-of (a .maps)
+            (g .used)),
       ),
     )
 
@@ -69,14 +70,16 @@ same-length c =
     let x = c .before .before .before .before .before .before in
     let s = entered x in
     (subst (PairFill (s .args .bounds .rings) (s .args .bounds .k) (s .args .m) (x .loop .o) (s .args .bounds .limit) (x .loop .tablebase)
-    (c .before .before .before .solve-pair .last .0)) (c .if1 .taken) (c .before .before .before .solve-pair .ensures)) .kept .same-length ∙ x .loop .inv .2
+    (c .before .before .before .solve-pair .last .0)) (c .if1 .taken) (c .before .before .before .solve-pair .ensures)) .kept .same-length
+    ∙ x .loop .inv .2
 
 returns : tie.Need-returns Inv-loop μ-loop
 returns c =
     let x = c .before .before .before .before .before .before in
     let s = entered x in (
       same-length c,
-      deep-whole (s .args .bounds .rings) (s .args .bounds .k) (s .args .m) (x .loop .o) (pair-in x (c .before .before .before .before .before .loop-test .taken))
+      deep-whole (s .args .bounds .rings) (s .args .bounds .k) (s .args .m) (x .loop .o) (pair-in x
+          (c .before .before .before .before .before .loop-test .taken))
           (c .before .before .before .before .before .loop-test .taken) (s .args .bounds .limit)
           (x .loop .tablebase) (c .before .before .before .solve-pair .last .0) (x .loop .inv .3)
           (subst (PairFill (s .args .bounds .rings) (s .args .bounds .k) (s .args .m) (x .loop .o) (s .args .bounds .limit) (x .loop .tablebase)
@@ -103,7 +106,8 @@ loop-again c =
       omega (arith, x .loop .inv .0),
       omega (arith, c .before .before .before .before .before .loop-test .taken),
       f .kept .same-length ∙ x .loop .inv .2,
-      done-pair (s .args .bounds .rings) (s .args .bounds .k) (s .args .m) (x .loop .o) (pair-in x (c .before .before .before .before .before .loop-test .taken))
+      done-pair (s .args .bounds .rings) (s .args .bounds .k) (s .args .m) (x .loop .o) (pair-in x
+          (c .before .before .before .before .before .loop-test .taken))
           (c .before .before .before .before .before .loop-test .taken) (s .args .bounds .limit)
           (x .loop .tablebase) (c .before .before .before .solve-pair .last .0) (x .loop .inv .3) f,
     )

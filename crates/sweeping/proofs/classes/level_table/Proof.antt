@@ -16,14 +16,16 @@ use Rattle.sweeping.proofs.classes.level_table.Tie as tie
 
 -- the tables fit, by the length that marks leave
 fits-once : (c : tie.After-mark-table)
-    → Fits (length (c .mark-table .last .0)) (c .before .before .before .before .before .before .before .args .maps .rings) (c .before .before .before .before .before .before .before .args .sweep .table)
+    → Fits (length (c .mark-table .last .0)) (c .before .before .before .before .before .before .before .args .maps .rings)
+    (c .before .before .before .before .before .before .before .args .sweep .table)
     (c .before .before .before .before .before .before .before .args .sweep .same)
 fits-once c =
     let s = c .before .before .before .before .before .before .before in
     let a = s .args in
     let p = s .pre .1 .0 in
     subst (λ (n : ℕ). Fits n (a .maps .rings) (a .sweep .table) (a .sweep .same)) (sym (ap length (c .mark-table .ensures)
-    ∙ from-length (a .maps .rings) (a .sweep .table .own .start) (sameSource (a .sweep .table) (a .sweep .same)) false (a .sweep .level - 1) (leastOfClass (a .maps .rings) (a .maps .count))
+    ∙ from-length (a .maps .rings) (a .sweep .table .own .start) (sameSource (a .sweep .table) (a .sweep .same)) false (a .sweep .level - 1)
+    (leastOfClass (a .maps .rings) (a .maps .count))
     (a .tablebase .now)
     (size (8 * a .maps .rings) (a .sweep .table .opponent) (a .sweep .table .mover)))) (p .fits)
 
@@ -101,7 +103,8 @@ returns c =
     let d = j .before .before .before .before in
     let k = d .before .before .before .before .before in
     let a = k .before .before .before .before .before .before .before .args in
-    level-is (a .maps .rings) (a .sweep .table) (a .sweep .same) (a .sweep .level) (a .maps .count) (leastOfClass (a .maps .rings) (a .maps .count)) (a .tablebase .now) (k .mark-table .last .0)
+    level-is (a .maps .rings) (a .sweep .table) (a .sweep .same) (a .sweep .level) (a .maps .count) (leastOfClass (a .maps .rings) (a .maps .count))
+    (a .tablebase .now) (k .mark-table .last .0)
     (d .mark-table2 .last .0) (j .judge-marked .last .0)
     (k .mark-table .ensures) (d .mark-table2 .ensures) (j .judge-marked .ensures)
 

@@ -47,7 +47,8 @@ loop-holds c =
       omega (arith, s .pre .1 .fits .end-is),
       c .find-mark .ensures .high,
       refl,
-      judged-over (a .maps .rings) (a .sweep .table) (a .sweep .same) (a .sweep .level) (a .maps .count) (a .tablebase .now) 0 _ (c .find-mark .result) (a .tablebase .now)
+      judged-over (a .maps .rings) (a .sweep .table) (a .sweep .same) (a .sweep .level) (a .maps .count) (a .tablebase .now) 0 _
+          (c .find-mark .result) (a .tablebase .now)
           (c .find-mark .ensures)
           (judged-none (a .maps .rings) (a .sweep .table) (a .sweep .same) (a .sweep .level) (a .maps .count) (a .tablebase .now)),
       c .find-mark .ensures .here,
@@ -57,8 +58,14 @@ loop-holds c =
 seek-requires : tie.Need-seek-requires Inv-loop μ-loop
 seek-requires c κs =
     let x = c .before in
-    let s = entered x in
-    (s .pre .0 .binomials, ((s .pre .1 .fits .small, omega (arith, c .loop-test .taken, x .loop .inv .0)), λ h. x .loop .inv .5 (omega (arith, c .loop-test .taken))))
+    let s = entered x in (
+      s .pre .0 .binomials,
+      (
+        (s .pre .1 .fits .small, omega (arith, c .loop-test .taken, x .loop .inv .0)),
+        λ h. x .loop .inv .5 (omega
+            (arith, c .loop-test .taken)),
+      ),
+    )
 
 judge-place-requires : tie.Need-judge-place-requires Inv-loop μ-loop
 judge-place-requires c κs =
@@ -78,7 +85,8 @@ judge-place-requires c κs =
         },
         record {
           low = omega (arith, l, x .loop .inv .0, e .0);
-          position-is = e .1 ∙ ap (λ (r : ℕ). positionOf (unrank (8 * a .maps .rings) (a .sweep .table .mover) (a .sweep .table .opponent) r)) (sym (e .0));
+          position-is = e .1 ∙ ap (λ (r : ℕ). positionOf (unrank (8 * a .maps .rings) (a .sweep .table .mover) (a .sweep .table .opponent) r)) (sym
+              (e .0));
           marked = ap (isMarked (a .sweep .table) (x .loop .tablebase)) (e .0) ∙ x .loop .inv .4 l;
         },
       ),
@@ -99,9 +107,11 @@ stepped c =
     let x = c .before .before .before .before in
     let a = entered x .args in
     let e = c .judge-place .ensures
-    ∙ ap (judgedClass (a .maps .rings) (a .sweep .table) (a .sweep .same) (a .sweep .level) (a .maps .count) (x .loop .tablebase)) (c .before .before .seek .ensures .0) in (
+    ∙ ap (judgedClass (a .maps .rings) (a .sweep .table) (a .sweep .same) (a .sweep .level) (a .maps .count) (x .loop .tablebase))
+    (c .before .before .seek .ensures .0) in (
       ap length e ∙ judged-length (a .maps .rings) (a .sweep .table) (a .sweep .same) (a .sweep .level) (a .maps .count) (x .loop .r) (x .loop .tablebase),
-      e ∙ judged-step (a .maps .rings) (a .sweep .table) (a .sweep .same) (a .sweep .level) (a .maps .count) (a .tablebase .now) (x .loop .r) (x .loop .tablebase) (x .loop .inv .3),
+      e ∙ judged-step (a .maps .rings) (a .sweep .table) (a .sweep .same) (a .sweep .level) (a .maps .count) (a .tablebase .now) (x .loop .r)
+          (x .loop .tablebase) (x .loop .inv .3),
     )
 
 find-mark-requires-2 : tie.Need-find-mark-requires-2 Inv-loop μ-loop
@@ -127,11 +137,13 @@ loop-again c =
       x .loop .inv .0,
       c .find-mark2 .ensures .high,
       stepped d .0 ∙ x .loop .inv .2,
-      judged-over (a .maps .rings) (a .sweep .table) (a .sweep .same) (a .sweep .level) (a .maps .count) (a .tablebase .now) (x .loop .r + 1) _ (c .find-mark2 .result)
+      judged-over (a .maps .rings) (a .sweep .table) (a .sweep .same) (a .sweep .level) (a .maps .count) (a .tablebase .now) (x .loop .r + 1) _
+          (c .find-mark2 .result)
           (d .judge-place .last .0)
           (c .find-mark2 .ensures) (stepped d .1),
       c .find-mark2 .ensures .here,
-      stands-at (a .maps .rings) (a .sweep .table .mover) (a .sweep .table .opponent) _ (x .loop .r) (k .seek .result) (k .seek .ensures .0) (k .seek .ensures .1),
+      stands-at (a .maps .rings) (a .sweep .table .mover) (a .sweep .table .opponent) _ (x .loop .r) (k .seek .result) (k .seek .ensures .0)
+          (k .seek .ensures .1),
     )
 
 same-length : tie.Need-same-length Inv-loop μ-loop
@@ -141,7 +153,8 @@ returns : tie.Need-returns Inv-loop μ-loop
 returns c =
     let x = c .before in
     let a = entered x .args in
-    let e : x .loop .r ≡ size (8 * a .maps .rings) (a .sweep .table .mover) (a .sweep .table .opponent) = omega (arith, c .loop-test .left, x .loop .inv .0, x .loop .inv .1) in
+    let e : x .loop .r ≡ size (8 * a .maps .rings) (a .sweep .table .mover) (a .sweep .table .opponent) = omega
+    (arith, c .loop-test .left, x .loop .inv .0, x .loop .inv .1) in
     x .loop .inv .3 ∙ ap (judgedFirst (a .maps .rings) (a .sweep .table) (a .sweep .same) (a .sweep .level) (a .maps .count) (a .tablebase .now)) e
 
 pub judge-marked-spec : {M : Type 1} → statement M

@@ -14,11 +14,13 @@ use Rattle.sweeping.proofs.judging.judge_place.Tie as tie
 
 -- the position that is judged
 found : (s : tie.Start)
-    → AtRank (length (s .args .tablebase .now)) (s .args .maps .rings) (s .args .sweep .table) (s .args .sweep .same) (s .args .at .rank) (s .args .at .position)
+    → AtRank (length (s .args .tablebase .now)) (s .args .maps .rings) (s .args .sweep .table) (s .args .sweep .same) (s .args .at .rank)
+    (s .args .at .position)
 found s =
     let a = s .args in
     let p = s .pre .1 in
-    at-rank (length (a .tablebase .now)) (a .maps .rings) (a .sweep .table) (a .sweep .same) (a .at .rank) (a .at .position) (p .0 .fits) (p .1 .low) (p .1 .position-is)
+    at-rank (length (a .tablebase .now)) (a .maps .rings) (a .sweep .table) (a .sweep .same) (a .at .rank) (a .at .position) (p .0 .fits)
+    (p .1 .low) (p .1 .position-is)
 
 cast-hits : tie.Need-cast-hits
 cast-hits c = omega (arith, c .before .before .before .before .before .pre .1 .0 .level-low)
@@ -56,8 +58,10 @@ returns c =
     let a = s .args in
     let w = found s in
     c .before .before .write-images .ensures
-    ∙ judged-hit (a .maps .rings) (a .sweep .table) (a .sweep .same) (a .sweep .level) (a .maps .count) (a .at .rank) (a .tablebase .now) (s .pre .1 .1 .marked)
-    (sym (hit-at (a .maps .rings) (a .sweep .table) (a .sweep .same) (a .at .rank) (a .tablebase .now) (length (a .tablebase .now)) (a .at .position) w (a .sweep .level))
+    ∙ judged-hit (a .maps .rings) (a .sweep .table) (a .sweep .same) (a .sweep .level) (a .maps .count) (a .at .rank) (a .tablebase .now)
+    (s .pre .1 .1 .marked)
+    (sym (hit-at (a .maps .rings) (a .sweep .table) (a .sweep .same) (a .at .rank) (a .tablebase .now) (length (a .tablebase .now))
+    (a .at .position) w (a .sweep .level))
     ∙ sym (t .before .hits .ensures) ∙ t .if1 .taken) (boardOf (8 * a .maps .rings) (a .at .position)) (w .board-is)
 
 write-entry-requires : tie.Need-write-entry-requires
@@ -74,8 +78,10 @@ returns-2 c =
     let a = s .args in
     let w = found s in
     c .before .before .write-entry .ensures
-    ∙ judged-miss (a .maps .rings) (a .sweep .table) (a .sweep .same) (a .sweep .level) (a .maps .count) (a .at .rank) (a .tablebase .now) (s .pre .1 .1 .marked)
-    (sym (hit-at (a .maps .rings) (a .sweep .table) (a .sweep .same) (a .at .rank) (a .tablebase .now) (length (a .tablebase .now)) (a .at .position) w (a .sweep .level))
+    ∙ judged-miss (a .maps .rings) (a .sweep .table) (a .sweep .same) (a .sweep .level) (a .maps .count) (a .at .rank) (a .tablebase .now)
+    (s .pre .1 .1 .marked)
+    (sym (hit-at (a .maps .rings) (a .sweep .table) (a .sweep .same) (a .at .rank) (a .tablebase .now) (length (a .tablebase .now))
+    (a .at .position) w (a .sweep .level))
     ∙ sym (t .before .hits .ensures) ∙ t .if1 .left)
 
 pub judge-place-spec : {M : Type 1} → statement M

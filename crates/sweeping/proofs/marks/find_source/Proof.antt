@@ -33,7 +33,8 @@ returns-3 : tie.Need-returns-3
 returns-3 c =
     let s = c .before .before .before .before .before in
     let a = s .args in
-    source-first (a .layer .source) (a .layer .depth) (a .tablebase .now) (a .r) (a .size) (s .pre .0) (omega (arith, c .before .if1 .left)) (c .find .result) (c .find .ensures)
+    source-first (a .layer .source) (a .layer .depth) (a .tablebase .now) (a .r) (a .size) (s .pre .0) (omega (arith, c .before .if1 .left))
+    (c .find .result) (c .find .ensures)
 
 pub find-source-spec : {M : Type 1} → statement M
 find-source-spec =

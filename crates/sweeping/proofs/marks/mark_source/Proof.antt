@@ -22,13 +22,15 @@ returns c =
     let t = c .before .before .before .before in
     let a = t .before .before .before .args in
     c .before .before .mark-before .ensures
-    ∙ gone-picked (a .maps .rings) (a .back .part .start) (a .back .capture) (leastOfClass (a .maps .rings) (a .maps .count)) (boardOf (8 * a .maps .rings) (a .position)) (a .tablebase .now)
+    ∙ gone-picked (a .maps .rings) (a .back .part .start) (a .back .capture) (leastOfClass (a .maps .rings) (a .maps .count)) (boardOf
+    (8 * a .maps .rings) (a .position)) (a .tablebase .now)
     (sym (t .before .is-least .ensures) ∙ t .if1 .taken)
 
 returns-2 : tie.Need-returns-2
 returns-2 c =
     let a = c .before .before .before .args in
-    gone-passed (a .maps .rings) (a .back .part .start) (a .back .capture) (leastOfClass (a .maps .rings) (a .maps .count)) (boardOf (8 * a .maps .rings) (a .position)) (a .tablebase .now)
+    gone-passed (a .maps .rings) (a .back .part .start) (a .back .capture) (leastOfClass (a .maps .rings) (a .maps .count)) (boardOf
+    (8 * a .maps .rings) (a .position)) (a .tablebase .now)
     (sym (c .before .is-least .ensures) ∙ c .if1 .left)
 
 pub mark-source-spec : {M : Type 1} → statement M

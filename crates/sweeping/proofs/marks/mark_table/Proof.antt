@@ -52,7 +52,15 @@ mul-points : tie.Need-mul-points Inv-loop μ-loop
 mul-points c = omega (arith, c .before .before .before .pre .0 .masks .small)
 
 size-requires : tie.Need-size-requires Inv-loop μ-loop
-size-requires c κs = let s = c .before .before .before in let p = s .pre .1 in (s .pre .0 .binomials, (omega (arith, s .pre .0 .masks .small), p .mover-most, p .opponent-most))
+size-requires c κs = let s = c .before .before .before in let p = s .pre .1 in (
+  s .pre .0 .binomials,
+  (
+    omega
+        (arith, s .pre .0 .masks .small),
+    p .mover-most,
+    p .opponent-most,
+  ),
+)
 
 nowhere-requires : tie.Need-nowhere-requires Inv-loop μ-loop
 nowhere-requires c κs = tt
@@ -70,9 +78,11 @@ loop-holds c =
       c .before .before .before .size .ensures,
       c .find-source .ensures .high,
       refl,
-      from-over (a .maps .rings) (a .back .part .start) (a .layer .source) (a .back .capture) (a .layer .depth) (leastOfClass (a .maps .rings) (a .maps .count)) (a .tablebase .now) 0 _
+      from-over (a .maps .rings) (a .back .part .start) (a .layer .source) (a .back .capture) (a .layer .depth) (leastOfClass (a .maps .rings)
+          (a .maps .count)) (a .tablebase .now) 0 _
           (c .find-source .result) (a .tablebase .now)
-          (c .find-source .ensures) (from-none (a .maps .rings) (a .back .part .start) (a .layer .source) (a .back .capture) (a .layer .depth) (leastOfClass (a .maps .rings) (a .maps .count))
+          (c .find-source .ensures) (from-none (a .maps .rings) (a .back .part .start) (a .layer .source) (a .back .capture) (a .layer .depth)
+          (leastOfClass (a .maps .rings) (a .maps .count))
           (a .tablebase .now)),
       c .find-source .ensures .here,
       λ h. absurd (omega (arith, c .before .before .nowhere .ensures)),
@@ -81,8 +91,14 @@ loop-holds c =
 seek-requires : tie.Need-seek-requires Inv-loop μ-loop
 seek-requires c κs =
     let x = c .before in
-    let s = entered x in
-    (s .pre .0 .binomials, ((s .pre .0 .masks .small, omega (arith, c .loop-test .taken, x .loop .inv .0)), λ h. x .loop .inv .5 (omega (arith, c .loop-test .taken))))
+    let s = entered x in (
+      s .pre .0 .binomials,
+      (
+        (s .pre .0 .masks .small, omega (arith, c .loop-test .taken, x .loop .inv .0)),
+        λ h. x .loop .inv .5 (omega
+            (arith, c .loop-test .taken)),
+      ),
+    )
 
 mark-source-requires : tie.Need-mark-source-requires Inv-loop μ-loop
 mark-source-requires c κs =
@@ -117,11 +133,14 @@ stepped c =
     let x = k .before .before in
     let a = entered x .args in
     let e = c .mark-source .ensures
-    ∙ marked-place (a .maps .rings) (a .back .part .start) (a .layer .source) (a .back .capture) (a .layer .depth) (leastOfClass (a .maps .rings) (a .maps .count)) (x .loop .r) (x .loop .tablebase)
+    ∙ marked-place (a .maps .rings) (a .back .part .start) (a .layer .source) (a .back .capture) (a .layer .depth) (leastOfClass (a .maps .rings)
+    (a .maps .count)) (x .loop .r) (x .loop .tablebase)
     (x .loop .inv .4 (k .before .loop-test .taken)) _ (found k .1) in (
-      ap length e ∙ place-length (a .maps .rings) (a .back .part .start) (a .layer .source) (a .back .capture) (a .layer .depth) (leastOfClass (a .maps .rings) (a .maps .count)) (x .loop .r)
+      ap length e ∙ place-length (a .maps .rings) (a .back .part .start) (a .layer .source) (a .back .capture) (a .layer .depth) (leastOfClass
+          (a .maps .rings) (a .maps .count)) (x .loop .r)
           (x .loop .tablebase),
-      e ∙ from-step (a .maps .rings) (a .back .part .start) (a .layer .source) (a .back .capture) (a .layer .depth) (leastOfClass (a .maps .rings) (a .maps .count)) (a .tablebase .now) (x .loop .r)
+      e ∙ from-step (a .maps .rings) (a .back .part .start) (a .layer .source) (a .back .capture) (a .layer .depth) (leastOfClass (a .maps .rings)
+          (a .maps .count)) (a .tablebase .now) (x .loop .r)
           (x .loop .tablebase) (x .loop .inv .3),
     )
 
@@ -149,11 +168,13 @@ loop-again c =
       x .loop .inv .0,
       c .find-source2 .ensures .high,
       stepped d .0 ∙ x .loop .inv .2,
-      from-over (a .maps .rings) (a .back .part .start) (a .layer .source) (a .back .capture) (a .layer .depth) (leastOfClass (a .maps .rings) (a .maps .count)) (a .tablebase .now)
+      from-over (a .maps .rings) (a .back .part .start) (a .layer .source) (a .back .capture) (a .layer .depth) (leastOfClass (a .maps .rings)
+          (a .maps .count)) (a .tablebase .now)
           (x .loop .r + 1) _ (c .find-source2 .result)
           (d .mark-source .last .0) (c .find-source2 .ensures) (stepped d .1),
       c .find-source2 .ensures .here,
-      stands-at (a .maps .rings) (a .layer .source .mover) (a .layer .source .opponent) _ (x .loop .r) (k .seek .result) (k .seek .ensures .0) (k .seek .ensures .1),
+      stands-at (a .maps .rings) (a .layer .source .mover) (a .layer .source .opponent) _ (x .loop .r) (k .seek .result) (k .seek .ensures .0)
+          (k .seek .ensures .1),
     )
 
 same-length : tie.Need-same-length Inv-loop μ-loop
@@ -163,8 +184,10 @@ returns : tie.Need-returns Inv-loop μ-loop
 returns c =
     let x = c .before in
     let a = entered x .args in
-    let e : x .loop .r ≡ size (8 * a .maps .rings) (a .layer .source .mover) (a .layer .source .opponent) = omega (arith, c .loop-test .left, x .loop .inv .0, x .loop .inv .1) in
-    x .loop .inv .3 ∙ ap (markedFrom (a .maps .rings) (a .back .part .start) (a .layer .source) (a .back .capture) (a .layer .depth) (leastOfClass (a .maps .rings) (a .maps .count))
+    let e : x .loop .r ≡ size (8 * a .maps .rings) (a .layer .source .mover) (a .layer .source .opponent) = omega
+    (arith, c .loop-test .left, x .loop .inv .0, x .loop .inv .1) in
+    x .loop .inv .3 ∙ ap (markedFrom (a .maps .rings) (a .back .part .start) (a .layer .source) (a .back .capture) (a .layer .depth) (leastOfClass
+    (a .maps .rings) (a .maps .count))
     (a .tablebase .now)) e
 
 pub mark-table-spec : {M : Type 1} → statement M
