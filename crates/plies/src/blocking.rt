@@ -7,18 +7,18 @@ ghost use Rattle.rules.specs.Ply.{listedMoves};
 ghost use Rattle.plies.specs.Inner.Positions.{Playable};
 use super::choices;
 
-// Whether a position has no move: none of the mover's stones can go anywhere.
+// Whether a position has no move: none of the mover's stones can go anywhere. The first stone most often can, so the rest is made after the test.
 pub fn blocked(rings: usize, masks: &[u32; 72], position: board::Position) -> bool
     requires { ⌜ Playable rings (now masks) position ⌝ }
     ensures { λ r. ⌜ r ≡ isEmpty (listedMoves rings (boardOf (8 * rings) position)) ⌝ }
 {
     let mut left = position.mover;
     while left != 0 {
-        let from = sets::take_lowest(left);
-        if choices::destinations(rings, masks, position, from.lowest) != 0 {
+        let from = sets::lowest(left);
+        if choices::destinations(rings, masks, position, from) != 0 {
             return false;
         }
-        left = from.rest;
+        left = sets::without(left, from);
     }
     true
 }
