@@ -16,7 +16,7 @@ use parts::DRAW;
 use parts::VOID;
 use probing::Starts;
 
-// Judges the marked position of rank r.
+// Judges the marked position that the cursor stands at.
 fn judge_place(
     tablebase: &mut [u16],
     binomials: &[u32; 625],

@@ -46,7 +46,7 @@ mark-stone-requires c κs =
     (returning-same (s .pre .0) (sym (x .loop .inv .long)), (s .pre .1, own l))
 
 loop-less : tie.Need-loop-less Inv-loop μ-loop
-loop-less c = c .before .before .before .before .take-lowest .ensures .less
+loop-less c = omega (arith, c .before .before .before .before .take-lowest .ensures .less)
 
 loop-again : tie.Need-loop-again Inv-loop μ-loop
 loop-again c =

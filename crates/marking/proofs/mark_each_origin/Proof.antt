@@ -1,5 +1,6 @@
 -- `marking::mark_each_origin` meets its contract. Assumes nothing.
 use mathlib.Core.Path.{sym}
+use native.Mathlib.Omega.{arith}
 use Prim.Native.Nat.{_*_}
 use Rattle.board.specs.Board.{boardOf}
 use Rattle.rules.specs.Predecessors.{restored}
@@ -40,7 +41,7 @@ mark-origin-requires c κs =
     (returning-same (s .pre .0) (sym (x .loop .inv .long)), (s .pre .1 .0, vacant l))
 
 loop-less : tie.Need-loop-less Inv-loop μ-loop
-loop-less c = c .before .before .before .before .take-lowest .ensures .less
+loop-less c = omega (arith, c .before .before .before .before .take-lowest .ensures .less)
 
 loop-again : tie.Need-loop-again Inv-loop μ-loop
 loop-again c =

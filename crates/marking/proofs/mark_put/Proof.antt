@@ -131,7 +131,7 @@ mark-entry-requires c κs =
     (omega (arith, r .rank-at .ensures, low s (g .go-to .result .at) (there g)), omega (arith, s .pre .room .within, x .loop .inv .0 .long))
 
 loop-less : tie.Need-loop-less Inv-loop μ-loop
-loop-less c = c .before .before .before .before .before .before .take-lowest .ensures .less
+loop-less c = omega (arith, c .before .before .before .before .before .before .take-lowest .ensures .less)
 
 loop-again : tie.Need-loop-again Inv-loop μ-loop
 loop-again c =

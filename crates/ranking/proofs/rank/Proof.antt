@@ -64,7 +64,7 @@ add-r c =
     )
 
 loop-less : tie.Need-loop-less Inv-loop μ-loop
-loop-less c = c .before .before .take-lowest .ensures .less
+loop-less c = omega (arith, c .before .before .take-lowest .ensures .less)
 
 loop-again : tie.Need-loop-again Inv-loop μ-loop
 loop-again c =

@@ -35,7 +35,7 @@ with-unshielded-requires c κs =
     (x .before .pre .0, bit-low 24 (x .loop .left) (c .take-lowest .result .lowest) (x .loop .inv .0) (c .take-lowest .ensures .member))
 
 loop-less : tie.Need-loop-less Inv-loop μ-loop
-loop-less c = c .before .take-lowest .ensures .less
+loop-less c = omega (arith, c .before .take-lowest .ensures .less)
 
 loop-again : tie.Need-loop-again Inv-loop μ-loop
 loop-again c =

@@ -55,7 +55,7 @@ add-n c =
     omega (arith, x .loop .inv .total, moves-small (x .before .args .rings) (x .before .args .position) (x .before .pre .placed), c .count-stone .ensures .1)
 
 loop-less : tie.Need-loop-less Inv-loop μ-loop
-loop-less c = c .before .before .take-lowest .ensures .less
+loop-less c = omega (arith, c .before .before .take-lowest .ensures .less)
 
 loop-again : tie.Need-loop-again Inv-loop μ-loop
 loop-again c =

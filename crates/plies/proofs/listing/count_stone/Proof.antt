@@ -64,7 +64,7 @@ add-n c =
     omega (arith, found c .1, x .loop .inv .total, stone-le (a .rings) (x .before .pre .0 .placed .small) (boardOf (8 * a .rings) (a .position)) (a .from) (a .tos))
 
 loop-less : tie.Need-loop-less Inv-loop μ-loop
-loop-less c = c .before .before .take-lowest .ensures .less
+loop-less c = omega (arith, c .before .before .take-lowest .ensures .less)
 
 loop-again : tie.Need-loop-again Inv-loop μ-loop
 loop-again c =

@@ -80,7 +80,7 @@ list-stone-requires c κs =
     )
 
 loop-less : tie.Need-loop-less Inv-loop μ-loop
-loop-less c = c .before .before .before .before .before .take-lowest .ensures .less
+loop-less c = omega (arith, c .before .before .before .before .before .take-lowest .ensures .less)
 
 loop-again : tie.Need-loop-again Inv-loop μ-loop
 loop-again c =

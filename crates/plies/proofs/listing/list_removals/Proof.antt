@@ -52,7 +52,7 @@ add-k : tie.Need-add-k Inv-loop μ-loop
 add-k c = let h = room (c .before) in search needs
 
 loop-less : tie.Need-loop-less Inv-loop μ-loop
-loop-less c = c .before .take-lowest .ensures .less
+loop-less c = omega (arith, c .before .take-lowest .ensures .less)
 
 loop-again : tie.Need-loop-again Inv-loop μ-loop
 loop-again c =

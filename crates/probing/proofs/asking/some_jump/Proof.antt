@@ -196,7 +196,7 @@ returns c =
     ∙ some-stone (s .args .rings) (s .args .position) (s .pre .0 .placed) _ (s .args .stone .from) (s .args .stone .tos) (s .pre .1 .0 .tos)
 
 loop-less : tie.Need-loop-less Inv-loop μ-loop
-loop-less c = c .before .before .before .before .before .take-lowest .ensures .less
+loop-less c = omega (arith, c .before .before .before .before .before .take-lowest .ensures .less)
 
 loop-again : tie.Need-loop-again Inv-loop μ-loop
 loop-again c =

@@ -41,7 +41,7 @@ returns c =
     (t .take-lowest .ensures) (sym (l .leads .ensures) ∙ c .if1 .taken)
 
 loop-less : tie.Need-loop-less Inv-loop μ-loop
-loop-less c = c .before .before .before .take-lowest .ensures .less
+loop-less c = omega (arith, c .before .before .before .take-lowest .ensures .less)
 
 loop-again : tie.Need-loop-again Inv-loop μ-loop
 loop-again c =

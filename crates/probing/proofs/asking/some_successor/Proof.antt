@@ -1,5 +1,6 @@
 -- `probing::asking::some_successor` meets its contract. Assumes nothing.
 use mathlib.Core.Path.{_≡_, sym, _∙_}
+use native.Mathlib.Omega.{arith}
 use Prim.Native.Nat.{_*_}
 use Rattle.lists.specs.Lists.{any}
 use Rattle.sets.specs.Sets.{bit}
@@ -62,7 +63,7 @@ returns c =
     ∙ some-move (a .rings) (a .position) (s .pre .0 .placed) _ ∙ some-successor-is _ (a .rings) (boardOf (8 * a .rings) (a .position))
 
 loop-less : tie.Need-loop-less Inv-loop μ-loop
-loop-less c = c .before .before .before .take-lowest .ensures .less
+loop-less c = omega (arith, c .before .before .before .take-lowest .ensures .less)
 
 loop-again : tie.Need-loop-again Inv-loop μ-loop
 loop-again c =
