@@ -8,11 +8,11 @@ ghost use lib.ListN.{length};
 ghost use Rattle.lists.specs.Lists.{member};
 ghost use Rattle.board.specs.Board.{count, boardOf};
 ghost use Rattle.rules.specs.Ply.{listedMoves};
-ghost use Rattle.probing.specs.Inner.Questions.{Probing};
+ghost use Rattle.probing.specs.Inner.Conditions.{Probing};
 ghost use Rattle.bestmove.specs.Inner.Choosing.{NoneVoid, Choosing};
 ghost use Rattle.bestmove.specs.Best.{bestEntry, bestMove};
 ghost use Rattle.bestmove.specs.Inner.Worth.{entryBy, worth};
-use probing::Starts;
+use tables::Starts;
 
 // No position has more moves.
 const MOVES_MAX: usize = 324;
@@ -120,8 +120,8 @@ pub fn best_move(
         (listedMoves rings (boardOf (8 * rings) position))) ⌝ }
 {
     let mut list = [0u16; MOVES_MAX];
-    plies::list_moves(rings, masks, position, &mut list);
-    let count = plies::count_moves(rings, masks, position);
+    listing::list_moves(rings, masks, position, &mut list);
+    let count = listing::count_moves(rings, masks, position);
     best_of(
         tablebase,
         binomials,

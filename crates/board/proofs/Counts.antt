@@ -4,9 +4,11 @@ use mathlib.Core.List.{List, [], _∷_, _++_, reverse, reverse-cons}
 use Prim.Native.Nat.{ℕ, zero, suc, _+_, _≤_}
 use native.Mathlib.Omega.{arith}
 use lib.Dec.{eqb}
-use lib.ListN.{length, take}
-use Rattle.board.specs.Board.{Values, count, digit}
-use Rattle.board.proofs.Sides.{more-digit, digit-lt}
+use lib.ListN.{length, getD, take, drop}
+use lib.Seq.{take-suc}
+use Rattle.sets.specs.Sets.{members}
+use Rattle.board.specs.Board.{Values, count, digit, setOf}
+use Rattle.board.proofs.Sides.{more-digit, digit-lt, bit-set}
 
 pub count-append : (v : ℕ) (a b : List ℕ) → count v (a ++ b) ≡ count v a + count v b
 count-append v [] b = omega arith
@@ -39,6 +41,11 @@ values-take zero b p = tt
 values-take (suc n) [] p = tt
 values-take (suc n) (x ∷ b) p = (p .0, values-take n b (p .1))
 
+pub values-drop : (n : ℕ) (b : List ℕ) → Values b → Values (drop n b)
+values-drop zero b v = v
+values-drop (suc n) [] v = tt
+values-drop (suc n) (x ∷ b) v = values-drop n b (v .1)
+
 -- every point holds one of three values
 pub count-all : (b : List ℕ) → Values b → count 0 b + count 1 b + count 2 b ≡ length b
 count-all [] v = refl
@@ -46,3 +53,10 @@ count-all (zero ∷ b) v = omega (arith, count-all b (v .1))
 count-all (suc zero ∷ b) v = omega (arith, count-all b (v .1))
 count-all (suc (suc zero) ∷ b) v = omega (arith, count-all b (v .1))
 count-all (suc (suc (suc x)) ∷ b) v = absurd (omega (arith, v .0))
+
+-- the stones below a point are the members there of their set
+pub count-members : (v : ℕ) (b : List ℕ) (p : ℕ) → p ≤ length b → count v (take p b) ≡ members (setOf v b) p
+unfolding members
+count-members v b zero h = refl
+count-members v b (suc p) h =
+    ap (count v) (take-suc b p 0 h) ∙ omega (arith, count-more v (take p b) (getD b p 0), count-members v b p (omega arith), bit-set v b p h)

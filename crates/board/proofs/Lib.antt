@@ -1,4 +1,3 @@
-pub mod Geometry
 pub mod Sides
 pub mod Counts
 pub mod OneToOne

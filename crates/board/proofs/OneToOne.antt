@@ -8,7 +8,7 @@ use lib.ListN.{getD}
 use Rattle.sets.specs.Sets.{bit, members}
 use Rattle.sets.proofs.Laws.{same-set}
 use Rattle.sets.proofs.Elements.{bit-low}
-use Rattle.board.specs.declared.position.Position.{Position}
+use Rattle.board.specs.declared.Position.{Position}
 use Rattle.board.specs.Board.{count, digit, setOf, positionOf, valueAt, boardOf, OnBoard}
 use Rattle.board.proofs.Sides.{set-lt, bit-set, members-count, length-board, board-at, said, board-values}
 use Rattle.board.proofs.Stores.{three-sets}

@@ -14,7 +14,7 @@ use lib.Seq.{drop-cons, ext-getD}
 use Rattle.sets.specs.Sets.{bit, members}
 use Rattle.sets.proofs.Laws.{bit-zero, bit-suc, members-all}
 use Rattle.lists.specs.Lists.{values}
-use Rattle.board.specs.declared.position.Position.{Position}
+use Rattle.board.specs.declared.Position.{Position}
 use Rattle.board.specs.Board.{Values, more, count, digit, setOf, positionOf, valueAt, boardOf, OnBoard}
 use Rattle.lists.proofs.Table.{rule, length-values, take-values}
 

@@ -5,7 +5,7 @@ use Prim.Native.Nat.{ℕ, suc, _+_, _*_, _^_, _≤_, _<_}
 use lib.Dec.{eqb}
 use Rattle.sets.specs.Sets.{bit, has}
 use Rattle.lists.specs.Lists.{values}
-use Rattle.board.specs.declared.position.Position.{Position}
+use Rattle.board.specs.declared.Position.{Position}
 
 -- A board is the list of what stands at points 0, 1, ..: 0 vacant, 1 the side to move, 2 the other side.
 abbrev pub Values : List ℕ → Type 0

@@ -1,3 +1,1 @@
-pub mod Geometry
-pub mod Tables
 pub mod Board

@@ -1,7 +1,6 @@
 // Representatives of classes.
-use super::boards::three_rings;
-use morris::Represented;
-use morris::Unranked;
+use answers::Represented;
+use answers::Unranked;
 use notation::about;
 use notation::add;
 use notation::board_of;
@@ -12,11 +11,12 @@ use notation::number;
 use notation::refused;
 use notation::table;
 use notation::text;
+use play_cases::three_rings;
 
 fn representative_of(rings: u8, board: &[u8]) {
     about(b"representative", rings, board);
     colon();
-    match morris::representative(rings, board) {
+    match class_calls::representative(rings, board) {
         Represented::Rank(r) => number(r),
         Represented::Refused(n) => refused(n),
     }
@@ -30,28 +30,12 @@ fn representative(rings: u8, length: usize, digits: u64) {
     representative_of(rings, &board[0..n]);
 }
 
-// A board, a turn and a mirror of it; others, one with its rings reversed; and each refusal.
-fn boards() {
-    representative(1, 8, 02122011);
-    representative(1, 8, 11021220);
-    representative(1, 8, 10221201);
-    representative(1, 8, 11120202);
-    representative(1, 8, 22211100);
-    representative(2, 16, 0001001002220101);
-    representative(2, 16, 0222010100010010);
-    representative_of(3, &three_rings());
-    representative(0, 8, 02122011);
-    representative(1, 7, 2122011);
-    representative(1, 8, 42122011);
-    representative(1, 8, 01122011);
-}
-
 // 1 where a rank is its own representative's, else 0.
 fn own(rings: u8, mover: u8, opponent: u8, rank: u64, board: &mut [u8]) -> u64 {
-    let Unranked::Written = morris::unrank(rings, mover, opponent, rank, board) else {
+    let Unranked::Written = rank_calls::unrank(rings, mover, opponent, rank, board) else {
         return 0;
     };
-    let Represented::Rank(r) = morris::representative(rings, board) else {
+    let Represented::Rank(r) = class_calls::representative(rings, board) else {
         return 0;
     };
     if r == rank { 1 } else { 0 }
@@ -78,8 +62,21 @@ fn classes(rings: u8, mover: u8, opponent: u8, size: u64) {
     end();
 }
 
+// A board, a turn and a mirror of it; others, one with its rings reversed; and each refusal. Then the classes of whole
+// tables.
 pub fn run() {
-    boards();
+    representative(1, 8, 02122011);
+    representative(1, 8, 11021220);
+    representative(1, 8, 10221201);
+    representative(1, 8, 11120202);
+    representative(1, 8, 22211100);
+    representative(2, 16, 0001001002220101);
+    representative(2, 16, 0222010100010010);
+    representative_of(3, &three_rings());
+    representative(0, 8, 02122011);
+    representative(1, 7, 2122011);
+    representative(1, 8, 42122011);
+    representative(1, 8, 01122011);
     classes(1, 3, 3, 560);
     classes(1, 5, 3, 56);
     classes(2, 3, 3, 160160);

@@ -1,7 +1,6 @@
 // Frames read and written.
-use super::boards::three_rings;
-use morris::Frame;
-use morris::Framed;
+use answers::Frame;
+use answers::Framed;
 use notation::about;
 use notation::board_of;
 use notation::colon;
@@ -11,9 +10,14 @@ use notation::number;
 use notation::refused;
 use notation::space;
 use notation::text;
+use play_cases::three_rings;
 
-fn taken_apart(answer: Frame) {
-    match answer {
+// The position of a frame: its rings and its two sets.
+fn read_frame(frame: &[u8]) {
+    text(b"read frame ");
+    text(frame);
+    colon();
+    match frame_calls::read_frame(frame) {
         Frame::Position {
             rings,
             mover,
@@ -25,28 +29,16 @@ fn taken_apart(answer: Frame) {
         }
         Frame::Refused(n) => refused(n),
     }
-}
-
-fn framed(answer: Framed) {
-    match answer {
-        Framed::Length(n) => number(n as u64),
-        Framed::Refused(n) => refused(n),
-    }
-}
-
-// The position of a frame: its rings and its two sets.
-fn read_frame(frame: &[u8]) {
-    text(b"read frame ");
-    text(frame);
-    colon();
-    taken_apart(morris::read_frame(frame));
     end();
 }
 
 fn write_over(rings: u8, board: &[u8], target: &mut [u8]) {
     about(b"write frame", rings, board);
     colon();
-    framed(morris::write_frame(rings, board, target));
+    match frame_calls::write_frame(rings, board, target) {
+        Framed::Length(n) => number(n as u64),
+        Framed::Refused(n) => refused(n),
+    }
     space();
     text(target);
     end();
@@ -59,14 +51,6 @@ fn write_frame(rings: u8, length: usize, digits: u64, room: usize) {
     let mut target = [46u8; 16];
     let m = least(room, 16);
     write_over(rings, &board[0..n], &mut target[0..m]);
-}
-
-// Document 01's two frames, one of two and one of three rings.
-fn frames() {
-    read_frame(b"018526");
-    read_frame(b"012256");
-    read_frame(b"02112a0401");
-    read_frame(b"03840084009042");
 }
 
 // Each refusal of a frame.
@@ -101,8 +85,12 @@ fn written() {
     write_frame(1, 8, 00122011, 2);
 }
 
+// First document 01's two frames, one of two and one of three rings.
 pub fn run() {
-    frames();
+    read_frame(b"018526");
+    read_frame(b"012256");
+    read_frame(b"02112a0401");
+    read_frame(b"03840084009042");
     refused_frames();
     written();
 }

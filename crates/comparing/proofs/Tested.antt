@@ -17,7 +17,7 @@ use Rattle.ranking.proofs.Inverse.{rank-unrank}
 use Rattle.game.specs.Game.{drawEntry}
 use Rattle.symmetry.specs.Symmetries.{symmetries, image}
 use Rattle.invariance.specs.Symmetric.{SymmetricFrom}
-use Rattle.parts.specs.Inner.Finding.{First}
+use Rattle.finding.specs.Inner.Finding.{First}
 use Rattle.comparing.specs.Inner.Compared.{imageHas, sameImages, isDecided}
 use Rattle.comparing.proofs.Generated.{SharedByThree, generated}
 

@@ -7,10 +7,10 @@ ghost use Rattle.board.specs.Board.{boardOf};
 ghost use Rattle.sizes.specs.Size.{size};
 ghost use Rattle.symmetry.specs.Symmetries.{symmetries};
 ghost use Rattle.invariance.specs.Symmetric.{SymmetricFrom};
-ghost use Rattle.parts.specs.Inner.Finding.{First};
+ghost use Rattle.finding.specs.Inner.Finding.{First};
 ghost use Rattle.comparing.specs.Inner.Compared.{Comparable, Comparing, imageHas, sameImages, isDecided, Decides};
+use layers::Source;
 use parts::DRAW;
-use sweeping::Source;
 
 // A position and its entry, in the table that starts at a place.
 pub struct Entered {
@@ -83,10 +83,10 @@ pub fn is_symmetric(
 {
     let start = table.start;
     let size = sizes::size(binomials, 8 * rings, table.mover, table.opponent);
-    let mut at = sweeping::nowhere(size);
+    let mut at = seeking::nowhere(size);
     let mut r = find_decided(tablebase, start, size, 0);
     while r < size {
-        at = sweeping::seek(binomials, rings, table.mover, table.opponent, at, r);
+        at = seeking::seek(binomials, rings, table.mover, table.opponent, at, r);
         let position = at.position;
         let entry = tablebase[start + r];
         if same_images(

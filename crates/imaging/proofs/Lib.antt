@@ -2,5 +2,3 @@ pub mod Bytes
 pub mod Assembled
 pub mod Making
 pub mod OnSets
-pub mod Least
-pub mod Picked

@@ -12,7 +12,7 @@ use Rattle.symmetry.specs.Symmetries.{symmetries, image}
 use Rattle.symmetry.proofs.Group.{compose, inverse}
 use Rattle.symmetry.proofs.Images.{image-zero, image-length}
 use Rattle.symmetry.proofs.Compose.{image-compose, image-back, image-count}
-use Rattle.symmetry.proofs.Plies.{successors-image, image-successors, removable-commutes}
+use Rattle.invariance.proofs.Plies.{successors-image, image-successors, removable-commutes}
 use Rattle.game.proofs.Maps.{Maps}
 use Rattle.game.proofs.Mapped.{map-entry}
 use Rattle.invariance.proofs.Groups.{Group}

@@ -30,11 +30,12 @@ use Rattle.game.proofs.Maps.{Image}
 use Rattle.game.proofs.Mapped.{symmetric-same}
 use Rattle.invariance.specs.Symmetric.{LowerSymmetric}
 use Rattle.invariance.proofs.Groups.{Group}
-use Rattle.imaging.proofs.Picked.{Picks}
-use Rattle.sweeping.specs.declared.tables.Table.{Table}
-use Rattle.sweeping.specs.Inner.Levels.{Fits}
+use Rattle.classing.proofs.Picked.{Picks}
+use Rattle.tables.specs.declared.Table.{Table}
+use Rattle.deciding.specs.Inner.Fits.{Fits}
 use Rattle.levels.proofs.Sides.{Side, sizes}
-use Rattle.sweeping.specs.Inner.Marked.{levelMarks, judgedFirst, levelByClasses}
+use Rattle.sweeping.specs.Inner.Levels.{levelMarks, levelByClasses}
+use Rattle.settling.specs.Inner.Settled.{judgedFirst}
 use Rattle.levels.proofs.Views.{opened, opened-mark, opened-other, view}
 use Rattle.levels.proofs.Sources.{MarkedIn, MarkedPart}
 use Rattle.levels.proofs.Judging.{mapped, SymmetricTable, Judging, no-marks, all-done}

@@ -33,12 +33,12 @@ use Rattle.game.proofs.Classes.{depth-hit-now, written, written-symmetric}
 use Rattle.invariance.specs.Symmetric.{LowerSymmetric}
 use Rattle.invariance.proofs.Groups.{Group}
 use Rattle.invariance.proofs.PairMaps.{pair-maps}
-use Rattle.sweeping.specs.declared.tables.Table.{Table}
-use Rattle.sweeping.specs.Inner.Levels.{boardAt, judged}
+use Rattle.tables.specs.declared.Table.{Table}
+use Rattle.deciding.specs.Inner.Open.{boardAt, judged}
 use Rattle.levels.proofs.Sides.{Side, ranked-is, place-is, entry-is, hit-is}
-use Rattle.imaging.specs.Inner.Images.{imagesWritten}
-use Rattle.imaging.proofs.OnSets.{images-length}
-use Rattle.sweeping.specs.Inner.Marked.{isMarked, judgedClass, judgedFirst}
+use Rattle.classing.specs.Inner.Classes.{imagesWritten}
+use Rattle.classing.proofs.Written.{images-length}
+use Rattle.settling.specs.Inner.Settled.{isMarked, judgedClass, judgedFirst}
 use Rattle.levels.proofs.Views.{opened, opened-mark, opened-other, view, hit-view}
 use Rattle.levels.proofs.Written.{seen-elsewhere, same-on, apart, written-kept, written-others, written-images}
 use Rattle.levels.proofs.Judging.{image-own, Judging}

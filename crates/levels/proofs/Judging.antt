@@ -22,7 +22,7 @@ use Rattle.game.proofs.Maps.{Maps, Image, Symmetric}
 use Rattle.invariance.specs.Symmetric.{LowerSymmetric}
 use Rattle.invariance.proofs.Groups.{Group}
 use Rattle.invariance.proofs.PairMaps.{pair-maps, image-table}
-use Rattle.sweeping.specs.declared.tables.Table.{Table}
+use Rattle.tables.specs.declared.Table.{Table}
 use Rattle.levels.proofs.Sides.{Side}
 use Rattle.levels.proofs.Views.{view}
 

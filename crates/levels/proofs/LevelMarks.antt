@@ -12,11 +12,12 @@ use Rattle.ranking.specs.Rank.{rank}
 use Rattle.rules.specs.Predecessors.{predecessors}
 use Rattle.game.specs.Game.{drawEntry, voidEntry}
 use Rattle.outcomes.proofs.Ranked.{InTable, rank-in, unrank-of}
-use Rattle.sweeping.specs.declared.tables.Table.{Table}
-use Rattle.sweeping.specs.declared.marks.Source.{Source}
-use Rattle.sweeping.specs.Inner.Levels.{Fits}
+use Rattle.tables.specs.declared.Table.{Table}
+use Rattle.layers.specs.declared.Source.{Source}
+use Rattle.deciding.specs.Inner.Fits.{Fits}
 use Rattle.sweeping.proofs.Sources.{same-leads, lower-leads}
-use Rattle.sweeping.specs.Inner.Marked.{sameSource, lowerSource, isSource, markedFrom, levelMarks}
+use Rattle.sweeping.specs.Inner.Levels.{sameSource, lowerSource, levelMarks}
+use Rattle.layers.specs.Inner.Layers.{isSource, markedFrom}
 use Rattle.levels.proofs.Sources.{MarkedIn, MarkedPart, part-then, closed-still, from-marked, source-same, from-closed}
 
 module _ (rings : ℕ) (t : Table) (same level maps : ℕ) (picked : List ℕ → Bool) (low : level < voidEntry) (three : 3 ≤ t .opponent) (clean : List ℕ)

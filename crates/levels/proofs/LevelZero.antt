@@ -26,8 +26,9 @@ use Rattle.outcomes.proofs.Ranked.{InTable, rank-in, unrank-of}
 use Rattle.outcomes.proofs.PairGame.{OnPair}
 use Rattle.outcomes.proofs.Entries.{kept-same, kept-set, kept-then}
 use Rattle.outcomes.proofs.PairLevels.{Amid, visited}
-use Rattle.sweeping.specs.declared.tables.Table.{Table}
-use Rattle.sweeping.specs.Inner.Levels.{isOpen, boardAt, blockedPlace, blockedFirst}
+use Rattle.tables.specs.declared.Table.{Table}
+use Rattle.deciding.specs.Inner.Open.{isOpen, boardAt}
+use Rattle.ending.specs.Inner.Blocked.{blockedPlace, blockedFirst}
 use Rattle.levels.proofs.Sides.{Side, ranked-is, board-in, place-is, open-is}
 
 module _ (rings k m o : ℕ) (pair : Pair rings k m o) (x y : ℕ) (t : Table) (same : ℕ) (side : Side rings k m o x y t same) where

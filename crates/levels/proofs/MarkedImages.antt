@@ -30,12 +30,13 @@ use Rattle.game.proofs.Mapped.{sources-image, map-depth}
 use Rattle.invariance.specs.Symmetric.{LowerSymmetric}
 use Rattle.invariance.proofs.Groups.{Group}
 use Rattle.invariance.proofs.PairMaps.{image-table}
-use Rattle.imaging.proofs.Picked.{Picks}
-use Rattle.sweeping.specs.declared.tables.Table.{Table}
-use Rattle.sweeping.specs.Inner.Levels.{Fits}
-use Rattle.sweeping.proofs.Probed.{lower-starts}
+use Rattle.classing.proofs.Picked.{Picks}
+use Rattle.tables.specs.declared.Table.{Table}
+use Rattle.deciding.specs.Inner.Fits.{Fits}
+use Rattle.tables.proofs.Lower.{lower-starts}
 use Rattle.levels.proofs.Sides.{Side}
-use Rattle.sweeping.specs.Inner.Marked.{sameSource, lowerSource, isSource, levelMarks}
+use Rattle.sweeping.specs.Inner.Levels.{sameSource, lowerSource, levelMarks}
+use Rattle.layers.specs.Inner.Layers.{isSource}
 use Rattle.levels.proofs.Judging.{mapped, SymmetricTable}
 use Rattle.levels.proofs.LevelMarks.{same-found, lower-found, source-stored, source-two}
 

@@ -18,10 +18,10 @@ use Rattle.outcomes.specs.Filled.{BothTables}
 use Rattle.outcomes.proofs.Ranked.{unrank-in, place-unrank}
 use Rattle.outcomes.proofs.PairGame.{InPair, pair-table}
 use Rattle.outcomes.proofs.Entries.{entry-unrank}
-use Rattle.sweeping.specs.declared.tables.Table.{Table}
-use Rattle.sweeping.specs.Inner.Tables.{Located}
-use Rattle.sweeping.specs.Inner.Levels.{isOpen, boardAt, judged, openDecided}
-use Rattle.sweeping.proofs.Probed.{probed}
+use Rattle.tables.specs.declared.Table.{Table}
+use Rattle.tables.specs.Inner.Tables.{Located}
+use Rattle.deciding.specs.Inner.Open.{isOpen, boardAt, judged, openDecided}
+use Rattle.probing.proofs.Probed.{probed}
 
 -- one of the tables of a pair, and where the other starts
 pub record Side (rings k m o x y : ℕ) (t : Table) (same : ℕ) : Type 0 where

@@ -19,11 +19,12 @@ use Rattle.rules.specs.Predecessors.{predecessors}
 use Rattle.rules.proofs.Found.{predecessor-of}
 use Rattle.game.specs.Game.{drawEntry, voidEntry}
 use Rattle.outcomes.proofs.Ranked.{InTable, unrank-in, rank-in}
-use Rattle.marking.specs.Inner.Marks.{marked, places}
-use Rattle.marking.proofs.Marks.{marked-length, marked-at, marked-closed}
-use Rattle.sweeping.specs.declared.tables.Table.{Table}
-use Rattle.sweeping.specs.declared.marks.Source.{Source}
-use Rattle.sweeping.specs.Inner.Marked.{LeadsTo, isSource, goneBack, markedPlace, markedFrom}
+use Rattle.marks.specs.Inner.Marks.{marked, places}
+use Rattle.marks.proofs.Marks.{marked-length, marked-at, marked-closed}
+use Rattle.tables.specs.declared.Table.{Table}
+use Rattle.layers.specs.declared.Source.{Source}
+use Rattle.sweeping.specs.Inner.Levels.{LeadsTo}
+use Rattle.layers.specs.Inner.Layers.{isSource, goneBack, markedPlace, markedFrom}
 
 -- an entry is as it was, or a mark in place of draw at one of n places
 abbrev pub MarkedIn : ℕ → ℕ → List ℕ → List ℕ → ℕ → Type 0

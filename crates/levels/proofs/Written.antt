@@ -23,8 +23,8 @@ use Rattle.outcomes.proofs.PairGame.{OnPair, InPair, in-pair, pair-table, PairR
 use Rattle.outcomes.proofs.Entries.{entry-two, entry-three, written-here, written-elsewhere, kept-same, kept-set, kept-then}
 use Rattle.symmetry.specs.Symmetries.{symmetries, image}
 use Rattle.invariance.proofs.PairMaps.{image-table}
-use Rattle.imaging.specs.Inner.Images.{imagesWritten}
-use Rattle.imaging.proofs.OnSets.{images-length}
+use Rattle.classing.specs.Inner.Classes.{imagesWritten}
+use Rattle.classing.proofs.Written.{images-length}
 
 module _ (rings k m o : ℕ) (pair : Pair rings k m o) where
   -- one entry written, seen from the pair's game

@@ -6,29 +6,15 @@ use Prim.Native.Nat.{ℕ, zero, suc, _+_, _*_, _≤_, _<_}
 use native.Mathlib.Nat.{zero-add}
 use native.Mathlib.Omega.{arith}
 use lib.Dec.{eqb}
-use lib.ListN.{length, getD, drop, take, set, length-append, length-take}
-use lib.Seq.{drop-cons, drop-length, sets, take-all, take-suc-set, take-append-le}
+use lib.ListN.{length, getD, drop, take}
+use lib.Seq.{drop-cons, drop-length, sets}
 use borrow.Author.Tests.{eq-eqb, ne-eqb}
 use Rattle.lists.proofs.Writing.{Writing, writing-none, writing-all, part-written}
 use Rattle.text.specs.Text.{lineFeed}
 use Rattle.text.specs.Inner.Room.{mostBytes}
-use Rattle.lines.specs.Lines.{mostKept, keepByte, endedLines, left, last}
-use Rattle.lines.specs.Answers.{answerOf, answers}
-
--- a byte that is kept: in its place, or dropped
-pub keep-room : (l : List ℕ) (n c : ℕ) → n < mostKept → length l ≡ mostKept → take (n + 1) (set l n c) ≡ keepByte (take n l) c
-unfolding keepByte
-keep-room l n c h e =
-    let s : n + 1 ≡ suc n = omega arith in
-    ap (λ (k : ℕ). take k (set l n c)) s ∙ take-suc-set l n c (omega arith)
-    ∙ sym (take-all mostKept (take n l ++ (c ∷ [])) (omega (arith, length-append (take n l) (c ∷ []), length-take n l)))
-
-pub keep-full : (l : List ℕ) (n c : ℕ) → n ≡ mostKept → length l ≡ mostKept → take n l ≡ keepByte (take n l) c
-unfolding keepByte
-keep-full l n c h e =
-    let a : take n l ≡ l = take-all n l (omega arith) in
-    a ∙ sym (take-all mostKept l (omega arith))
-    ∙ sym (ap (λ (x : List ℕ). take mostKept (x ++ (c ∷ []))) a ∙ take-append-le mostKept l (c ∷ []) (omega arith))
+use Rattle.keeping.specs.Kept.{keepByte}
+use Rattle.lines.specs.Lines.{endedLines, left, last}
+use Rattle.replies.specs.Replies.{answerOf, answers}
 
 -- a byte that ends a line, and one that does not
 module _ (kept : List ℕ) (c : ℕ) where

@@ -1,5 +1,1 @@
-pub mod Fields
-pub mod Reading
 pub mod Blocks
-pub mod Whole
-pub mod Filled

@@ -1,3 +1,1 @@
 pub mod Lines
-pub mod Answers
-pub mod Session

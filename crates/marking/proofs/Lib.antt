@@ -1,4 +1,1 @@
-pub mod Before
-pub mod Marks
-pub mod Marking
 pub mod Origins

@@ -4,8 +4,8 @@ use mathlib.Core.Bool.{Bool}
 use mathlib.Core.List.{List, [], _∷_}
 use Prim.Native.Nat.{ℕ, zero, suc}
 use Rattle.refusals.specs.Refusals.{Pick, pick, tooDeep, refusal}
-use Rattle.refusals.specs.Answers.{Answer, number, answer}
-use Rattle.morris.specs.Fills.{Promise}
+use Rattle.answers.specs.Answers.{Answer, number, answer}
+use Rattle.fill_calls.specs.Fills.{Promise}
 
 again : (n : ℕ) → answer (number (answer n [])) [] ≡ answer n []
 again zero = refl

@@ -23,6 +23,28 @@ pub fn number(n: u64) {
     io::print_decimal(STDOUT_FILENO, n);
 }
 
+// A byte of a text: the next of the numbers for `%`, any other as it is. How many of the numbers are then written.
+fn byte(b: u8, numbers: &[u64], written: usize) -> usize {
+    if b != b'%' {
+        text(&[b]);
+        return written;
+    }
+    if written < numbers.len() {
+        io::print_decimal(STDOUT_FILENO, numbers[written]);
+    }
+    std::num::wrapping_add_usize(written, 1)
+}
+
+// A text with numbers, one for each `%` in it.
+pub fn print(s: &[u8], numbers: &[u64]) {
+    let mut written = 0;
+    let mut i = 0;
+    while i < s.len() {
+        written = byte(s[i], numbers, written);
+        i += 1;
+    }
+}
+
 // A board, from its last byte to its first.
 pub fn points(board: &[u8]) {
     let mut i = board.len();

@@ -1,5 +1,1 @@
-pub mod Down
 pub mod Filling
-pub mod Firsts
-pub mod LeastDepth
-pub mod Occurs

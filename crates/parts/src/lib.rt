@@ -1,16 +1,11 @@
 // One table's part of a tablebase: the places from its start on and below its end. The function that writes entries is lent that part alone.
-mod finding;
-
-pub use finding::find;
 ghost use mathlib.Core.Path.{_≡_};
 ghost use mathlib.Core.Bool.{true, false};
 ghost use Prim.Native.Nat.{_+_, _≤_, _<_};
 ghost use lib.Dec.{eqb};
 ghost use lib.ListN.{length, getD, set, replicate};
-ghost use Rattle.lists.specs.Lists.{any};
 ghost use Rattle.game.specs.Game.{drawEntry, voidEntry};
-ghost use Rattle.parts.specs.Parts.{partOf, filledPart};
-ghost use Rattle.parts.specs.Inner.Finding.{nearer, leastFrom};
+ghost use Rattle.parts.specs.Parts.{filledPart};
 
 // The entry of a draw, and of a position that is open while its table is filled.
 pub const DRAW: u16 = 65535;
@@ -92,64 +87,4 @@ pub fn mark_entry(tablebase: &mut [u16], part: Part, r: usize)
     let start = part.start;
     let end = part.end;
     mark(&mut tablebase[start..end], r);
-}
-
-// How far an entry lies above `low`, if that is less than `above`. Entries below `low` wrap round and lie far above.
-fn nearer(above: u16, e: u16, low: u16) -> u16
-    requires { ⌜ low + above ≤ voidEntry ⌝ }
-    ensures { λ r. ⌜ low + r ≡ nearer (low + above) e low ⌝ }
-{
-    let d = std::num::wrapping_sub_u16(e, low);
-    if d < above {
-        return d;
-    }
-    above
-}
-
-// The least depth from `low` on among the entries of a part, void where there is none. The loop is a minimum of differences, which the machine takes
-// for several entries at once.
-fn least_from(part: &[u16], low: u16) -> u16
-    requires { ⌜ low ≤ voidEntry ⌝ }
-    ensures { λ r. ⌜ r ≡ leastFrom low (now (part .entry)) ⌝ }
-{
-    let mut above = VOID - low;
-    let mut i = part.len();
-    while 0 < i {
-        i -= 1;
-        above = nearer(above, part[i], low);
-    }
-    low + above
-}
-
-// Whether an entry of a part is void.
-fn has_void(part: &[u16]) -> bool
-    ensures { λ r. ⌜ r ≡ any (λ e. eqb e voidEntry) (now (part .entry)) ⌝ }
-{
-    let mut found = false;
-    let mut i = part.len();
-    while 0 < i {
-        i -= 1;
-        found = (part[i] == VOID) | found;
-    }
-    found
-}
-
-// The least depth from `low` on in a table.
-pub fn least_depth(tablebase: &[u16], part: Part, low: u16) -> u16
-    requires { ⌜ (part .start ≤ part .end) × (part .end ≤ length (now tablebase)) × (low ≤ voidEntry) ⌝ }
-    ensures { λ r. ⌜ r ≡ leastFrom low (partOf (part .start) (part .end) (now (tablebase .entry))) ⌝ }
-{
-    let start = part.start;
-    let end = part.end;
-    least_from(&tablebase[start..end], low)
-}
-
-// Whether an entry of a table is void.
-pub fn void_within(tablebase: &[u16], part: Part) -> bool
-    requires { ⌜ (part .start ≤ part .end) × (part .end ≤ length (now tablebase)) ⌝ }
-    ensures { λ r. ⌜ r ≡ any (λ e. eqb e voidEntry) (partOf (part .start) (part .end) (now (tablebase .entry))) ⌝ }
-{
-    let start = part.start;
-    let end = part.end;
-    has_void(&tablebase[start..end])
 }

@@ -16,8 +16,8 @@ use Rattle.lists.proofs.Tests.{any-both, any-same, and-left, and-right}
 use Rattle.sets.specs.Sets.{has, members, shared, with, setFrom}
 use Rattle.sets.proofs.Laws.{members-all, ones-three, three-members}
 use Rattle.sets.proofs.Elements.{from-none, from-three}
-use Rattle.board.specs.Geometry.{ringMills, crossMills, mills, millsThrough}
-use Rattle.board.proofs.Geometry.{proper, mill-proper}
+use Rattle.geometry.specs.Geometry.{ringMills, crossMills, mills, millsThrough}
+use Rattle.geometry.proofs.Geometry.{proper, mill-proper}
 use Rattle.rules.specs.Ply.{inMill}
 use Rattle.rules.proofs.Mills.{in-mill-any}
 

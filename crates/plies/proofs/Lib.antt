@@ -1,8 +1,6 @@
-pub mod After
-pub mod Derived
+pub mod BoardPositions
 pub mod FullMills
 pub mod Movable
-pub mod Numbers
 pub mod OnPositions
 pub mod SomeMove
 pub mod StoneMoves

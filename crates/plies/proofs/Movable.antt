@@ -9,7 +9,7 @@ use Rattle.lists.specs.Lists.{any, isEmpty, orElse}
 use Rattle.lists.proofs.Tests.{any-map, any-same}
 use Rattle.sets.specs.Sets.{elements, setFrom}
 use Rattle.sets.proofs.Elements.{from-lt, elements-none, elements-lowest}
-use Rattle.board.specs.declared.position.Position.{Position}
+use Rattle.board.specs.declared.Position.{Position}
 use Rattle.board.specs.Board.{boardOf}
 use Rattle.rules.specs.Ply.{holds, inMill, destinations, slide, removable, noRemoval, removals, slideMoves, listedMoves}
 use Rattle.plies.specs.Inner.Listing.{listedFrom}

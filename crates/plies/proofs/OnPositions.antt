@@ -10,7 +10,7 @@ use lib.Pow.{pow-mono}
 use Rattle.lists.specs.Lists.{orElse}
 use Rattle.sets.specs.Sets.{has, with, without, elements, setFrom}
 use Rattle.sets.proofs.Elements.{from-first, from-second, from-elements}
-use Rattle.board.specs.declared.position.Position.{Position}
+use Rattle.board.specs.declared.Position.{Position}
 use Rattle.board.specs.Board.{boardOf}
 use Rattle.board.proofs.Sides.{length-board}
 use Rattle.board.proofs.OneToOne.{mover-set, opponent-set, mover-at, vacant-at}

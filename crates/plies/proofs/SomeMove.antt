@@ -6,7 +6,7 @@ use Prim.Native.Nat.{ℕ, _+_, _*_}
 use Rattle.lists.specs.Lists.{any}
 use Rattle.lists.proofs.Tests.{any-each, any-map}
 use Rattle.sets.specs.Sets.{elements, setFrom}
-use Rattle.board.specs.declared.position.Position.{Position}
+use Rattle.board.specs.declared.Position.{Position}
 use Rattle.board.specs.Board.{boardOf}
 use Rattle.rules.specs.Ply.{destinations, slide, removable, removals, slideMoves, listedMoves, afterPly, successors}
 use Rattle.plies.specs.Inner.Listing.{listedFrom}

@@ -1,4 +1,2 @@
 pub mod Listing
-pub mod Masks
-pub mod Placing
 pub mod Positions

@@ -6,9 +6,8 @@ ghost use Rattle.lists.specs.Lists.{keep};
 ghost use Rattle.sets.specs.Sets.{has, with, elements, setFrom};
 ghost use Rattle.board.specs.Board.{boardOf};
 ghost use Rattle.rules.specs.Ply.{inMill, destinations, slide, removable, removals};
-ghost use Rattle.plies.specs.Inner.Masks.{Masks};
+ghost use Rattle.masks.specs.Inner.Masks.{Masks};
 ghost use Rattle.plies.specs.Inner.Positions.{Playable, Slide};
-use super::masks;
 
 // The set that stands for no removal: point 31.
 pub const NO_REMOVAL: u32 = 2147483648;

@@ -1,4 +1,2 @@
-pub mod Asked
-pub mod Keys
 pub mod Reading
-pub mod Jumps
+pub mod Probed

@@ -1,3 +1,2 @@
 pub mod Probes
-pub mod Questions
-pub mod Jumping
+pub mod Conditions

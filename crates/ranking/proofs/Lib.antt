@@ -4,11 +4,3 @@ pub mod Steps
 pub mod Digits
 pub mod StoneRanks
 pub mod OnSets
-pub mod Extremes
-pub mod Following
-pub mod BoardSets
-pub mod Descents
-pub mod NextPosition
-pub mod Runs
-pub mod Puts
-pub mod Insertions

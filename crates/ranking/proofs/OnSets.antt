@@ -12,7 +12,7 @@ use Rattle.lists.specs.Lists.{range, keep}
 use Rattle.sets.specs.Sets.{has, elements}
 use Rattle.sets.specs.Inner.Taken.{Taken}
 use Rattle.sets.proofs.Elements.{elements-are, elements-more, elements-none}
-use Rattle.board.specs.declared.position.Position.{Position}
+use Rattle.board.specs.declared.Position.{Position}
 use Rattle.board.specs.Board.{Values, digit, boardOf, OnBoard}
 use Rattle.board.proofs.Sides.{digit-lt, length-board, board-values}
 use Rattle.ranking.specs.Rank.{rank}

@@ -8,18 +8,7 @@ ghost use Rattle.sizes.specs.Inner.Binomial.{BinomialTable};
 ghost use Rattle.ranking.specs.Rank.{rank};
 ghost use Rattle.ranking.specs.Inner.Rankable.{Rankable};
 ghost use Rattle.ranking.specs.Unrank.{below, topValue, unrank};
-
-mod inserting;
-mod stepping;
-
 use board::Position;
-pub use inserting::Insertion;
-pub use inserting::WALK_PAYS_ABOVE;
-pub use inserting::begin;
-pub use inserting::go_to;
-pub use inserting::rank_at;
-pub use stepping::advance;
-pub use stepping::next;
 
 // With m and o stones on n + 1 points, how many boards have a lower value than x at the highest point.
 fn below(binomials: &[u32; 625], x: u8, n: usize, m: usize, o: usize) -> usize
@@ -52,7 +41,13 @@ fn choose(test: bool, a: usize, b: usize) -> usize
 
 // What a stone at p adds to the rank, the opponent's or the mover's, with so many stones at the points up to p of which o are the opponent's: the
 // boards that have a lower value there, as one product of two binomials.
-fn contribution(binomials: &[u32; 625], theirs: bool, p: usize, stones: usize, o: usize) -> usize
+pub fn contribution(
+    binomials: &[u32; 625],
+    theirs: bool,
+    p: usize,
+    stones: usize,
+    o: usize,
+) -> usize
     requires { ⌜ BinomialTable (now binomials) ⌝ }
     requires { ⌜ (p < 24) × (o ≤ stones) × (stones ≤ p + 1) ⌝ }
     ensures { λ r. ⌜ r ≡ below (suc (digit theirs)) p (stones - o) o ⌝ }

@@ -2,4 +2,3 @@ pub mod FirstRefusal
 pub mod Conditions
 pub mod FrameConditions
 pub mod TablebaseConditions
-pub mod Answering

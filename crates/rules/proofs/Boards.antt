@@ -6,7 +6,7 @@ use mathlib.Core.List.{List, [], _∷_, reverse}
 use Prim.Native.Nat.{ℕ}
 use lib.Dec.{eqb}
 use Rattle.lists.specs.Lists.{all}
-use Rattle.board.specs.Geometry.{points, follows, inward, adjoin, ringMills, crossMills, mills}
+use Rattle.geometry.specs.Geometry.{points, follows, inward, adjoin, ringMills, crossMills, mills}
 use Rattle.rules.specs.Ply.{holding, inMill, destinations, slide, unshielded, removable, removals, moves, remove, exchange, afterPly}
 
 -- a board read from its highest point down, and its moves

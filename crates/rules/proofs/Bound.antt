@@ -15,13 +15,12 @@ use Rattle.lists.proofs.Lengths.{keep-le, orElse-le, each-le}
 use Rattle.lists.proofs.Table.{every-at}
 use Rattle.lists.proofs.Tests.{keep-same}
 use Rattle.sets.proofs.Elements.{length-elements}
-use Rattle.board.specs.Geometry.{points, adjoin, neighbours}
+use Rattle.geometry.specs.Geometry.{points, adjoin, neighbours}
 use Rattle.board.specs.Board.{Values, count, setOf}
 use Rattle.board.proofs.Sides.{members-count}
 use Rattle.board.proofs.Counts.{count-all}
-use Rattle.board.proofs.Geometry.{neighbours-are, neighbours-within, neighbours-few}
-use Rattle.rules.specs.Ply.{holds, holding, inMill, destinations, slide, unshielded, removable, noRemoval, removals, moveNumber, slideMoves}
-use Rattle.rules.specs.Ply.{stoneMoves, moves}
+use Rattle.geometry.proofs.Geometry.{neighbours-are, neighbours-within, neighbours-few}
+use Rattle.rules.specs.Ply.{holds, holding, inMill, destinations, slide, unshielded, removable, noRemoval, removals, moveNumber, slideMoves, stoneMoves, moves}
 use Rattle.rules.proofs.Listed.{holding-is, destination-vacant}
 use Rattle.rules.proofs.Leads.{slide-length, slide-counts}
 use Rattle.rules.proofs.OnSets.{holding-set}

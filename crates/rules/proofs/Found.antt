@@ -11,13 +11,12 @@ use lib.ListN.{getD, set, length, length-set, length-map}
 use lib.Seq.{getD-set-same, getD-set-other, set-getD, set-set, set-comm}
 use borrow.Author.Tests.{eqb-true, eqb-false, ne-eqb, not-true}
 use Rattle.lists.proofs.Members.{keep-member, member-keep, each-member, member-each, map-member, member-map}
-use Rattle.board.specs.Geometry.{follows, inward, adjoin}
+use Rattle.geometry.specs.Geometry.{follows, inward, adjoin}
 use Rattle.board.specs.Board.{Values, count, digit}
 use Rattle.rules.specs.Ply.{holds, holding, inMill, slide, noRemoval, removals, remove, exchange, successors}
 use Rattle.rules.specs.Predecessors.{moved, origins, unslide, restored, predecessors}
 use Rattle.rules.proofs.Listed.{Move, move-of, holding-is, is-holding, removals-without, successor-of, TakesOpponent}
-use Rattle.rules.proofs.Leads.{Removed, BeforeExchange, removed-of, removed-before, listed-parts, after-parts, remove-none, remove-one}
-use Rattle.rules.proofs.Leads.{exchange-at, exchange-counts, exchange-values, slide-counts, slide-length, slide-values, count-set, values-set}
+use Rattle.rules.proofs.Leads.{Removed, BeforeExchange, removed-of, removed-before, listed-parts, after-parts, remove-none, remove-one, exchange-at, exchange-counts, exchange-values, slide-counts, slide-length, slide-values, count-set, values-set}
 use Rattle.rules.proofs.Mills.{in-mill-same}
 
 -- neighbours of each other

@@ -10,11 +10,10 @@ use lib.ListN.{getD}
 use borrow.Author.Tests.{eqb-true, eq-eqb}
 use Rattle.lists.specs.Lists.{each, orElse}
 use Rattle.lists.proofs.Members.{keep-member, member-keep, each-member, member-each, map-member, member-map, orElse-cases}
-use Rattle.board.specs.Geometry.{points, adjoin}
+use Rattle.geometry.specs.Geometry.{points, adjoin}
 use Rattle.board.specs.Board.{count}
-use Rattle.board.proofs.Geometry.{point-low, low-point}
-use Rattle.rules.specs.Ply.{holds, holding, inMill, destinations, slide, unshielded, removable, noRemoval, removals, moveNumber, stoneMoves, moves}
-use Rattle.rules.specs.Ply.{afterPly, successors}
+use Rattle.geometry.proofs.Geometry.{point-low, low-point}
+use Rattle.rules.specs.Ply.{holds, holding, inMill, destinations, slide, unshielded, removable, noRemoval, removals, moveNumber, stoneMoves, moves, afterPly, successors}
 
 module _ (rings : ℕ) (b : List ℕ) (v p : ℕ) where
   pub holding-is : List·Memᴰ p (holding rings b v) → (p < 8 * rings) × (getD b p 0 ≡ v)

@@ -4,8 +4,8 @@ use mathlib.Core.Bool.{Bool, _&&_}
 use Prim.Native.Nat.{ℕ, _*_, _≤_, _<_}
 use Rattle.lists.specs.Lists.{all, any, member}
 use Rattle.lists.proofs.Tests.{any-same, all-same}
-use Rattle.board.specs.Geometry.{mills}
-use Rattle.board.proofs.Geometry.{mill-low}
+use Rattle.geometry.specs.Geometry.{mills}
+use Rattle.geometry.proofs.Geometry.{mill-low}
 use Rattle.rules.specs.Ply.{inMill}
 
 -- in a full mill: one of the mills has the point, and all its points pass

@@ -18,9 +18,9 @@ use Rattle.lists.proofs.Tests.{keep-same}
 use Rattle.sets.specs.Sets.{bit, has, with, without, elements, setFrom}
 use Rattle.sets.proofs.Laws.{bit-and, bit-cases, same-set, without-absent}
 use Rattle.sets.proofs.Elements.{elements-is, is-element, elements-more, from-elements, from-lt, bit-from, from-bit, from-first, from-second, from-one}
-use Rattle.board.specs.Geometry.{points, adjoin, neighbours}
+use Rattle.geometry.specs.Geometry.{points, adjoin, neighbours}
 use Rattle.board.specs.Board.{Values, count, digit, setOf}
-use Rattle.board.proofs.Geometry.{points-are, low-point, neighbours-are}
+use Rattle.geometry.proofs.Geometry.{points-are, low-point, neighbours-are}
 use Rattle.board.proofs.Sides.{set-lt, bit-set, set-none, set-cons}
 use Rattle.board.proofs.Stores.{has-set, elements-set, set-with, set-without}
 use Rattle.rules.specs.Ply.{holds, holding, inMill, destinations, slide, unshielded, removable, noRemoval, removals, exchange}

@@ -9,8 +9,8 @@ use native.Mathlib.Omega.{arith}
 use Rattle.lists.specs.Lists.{Rising}
 use Rattle.lists.proofs.Members.{each-member, map-member}
 use Rattle.lists.proofs.Rises.{rising-range, rising-keep, rising-else, rising-add, rising-each}
-use Rattle.board.specs.Geometry.{points}
-use Rattle.board.proofs.Geometry.{points-are}
+use Rattle.geometry.specs.Geometry.{points}
+use Rattle.geometry.proofs.Geometry.{points-are}
 use Rattle.rules.specs.Ply.{holds, holding, inMill, destinations, slide, unshielded, removable, noRemoval, removals, slideMoves, stoneMoves, moves}
 use Rattle.rules.proofs.Listed.{destination-vacant, removal-cases, TakesOpponent}
 

@@ -6,7 +6,7 @@ use Prim.Native.Nat.{ℕ, zero, suc, _+_, _*_, _/_, _%_}
 use lib.Dec.{eqb}
 use lib.ListN.{getD, set}
 use Rattle.lists.specs.Lists.{keep, all, any, each, member, orElse}
-use Rattle.board.specs.Geometry.{points, adjoin, mills}
+use Rattle.geometry.specs.Geometry.{points, adjoin, mills}
 use Rattle.board.specs.Board.{count}
 
 -- point p holds v

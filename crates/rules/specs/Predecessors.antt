@@ -6,7 +6,7 @@ use Prim.Native.Nat.{ℕ}
 use lib.Dec.{eqb}
 use lib.ListN.{set}
 use Rattle.lists.specs.Lists.{keep, each}
-use Rattle.board.specs.Geometry.{adjoin}
+use Rattle.geometry.specs.Geometry.{adjoin}
 use Rattle.board.specs.Board.{count}
 use Rattle.rules.specs.Ply.{holds, holding, inMill, slide, exchange}
 

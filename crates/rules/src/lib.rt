@@ -1,1 +1,1 @@
-// Plies by the rules: definitions and laws only. The functions are in `plies`.
+// Plies by the rules: definitions and laws only. The functions stand above, in `plies`, `making` and `listing`.

@@ -1,16 +1,10 @@
 // A second solver, written apart: it shares no code, no table and no definition with the other crates, so what both find was found twice.
 //
-// A board is 24 bytes, neighbours and mills are arithmetics on ring and place, and the tablebase is found backwards. A first pass counts
-// the plies of each position and writes the ends; then, depth by depth, each position of that depth is taken back by every ply that can
-// have led to it. What stood before a lost position is won; what stood before a won one has a ply less to hope for, and is lost with
-// its last. What stays open is drawn.
+// The tablebase is found backwards. A first pass counts the plies of each position and writes the ends; then, depth by depth, each position of
+// that depth is taken back by every ply that can have led to it. What stood before a lost position is won; what stood before a won one has a
+// ply less to hope for, and is lost with its last. What stays open is drawn.
 //
 // All tables are filled, or two of them over entries that are given: `filled` has the starts of those alone, `starts` those of all.
-mod backwards;
-mod order;
-mod plies;
-mod points;
-
 ghost use Prim.Native.Nat.{_<_, _≤_};
 ghost use Rattle.second.specs.Unchanged.{UnchangedUnless};
 
@@ -24,8 +18,8 @@ pub fn solve(rings: u8, k: u8, entries: &mut [u16], counts: &mut [u16]) -> bool
     if outside(rings, k) {
         return false;
     }
-    let ways = order::ways_table();
-    let starts = order::starts_table(&ways, rings, k);
+    let ways = second_order::ways_table();
+    let starts = second_order::starts_table(&ways, rings, k);
     fill(&ways, &starts, &starts, rings, entries, counts)
 }
 
@@ -45,12 +39,12 @@ pub fn solve_pair(
     if outside(rings, k) {
         return false;
     }
-    let ways = order::ways_table();
-    let starts = order::starts_table(&ways, rings, k);
-    if order::start_of(&starts, mover, opponent) == order::NO_TABLE {
+    let ways = second_order::ways_table();
+    let starts = second_order::starts_table(&ways, rings, k);
+    if second_order::start_of(&starts, mover, opponent) == second_order::NO_TABLE {
         return false;
     }
-    let pair = order::pair_of(&starts, mover, opponent);
+    let pair = second_order::pair_of(&starts, mover, opponent);
     fill(&ways, &starts, &pair, rings, entries, counts)
 }
 
@@ -69,11 +63,11 @@ fn fill(
 ) -> bool
     ensures { λ r. ⌜ UnchangedUnless r (now (entries .entry)) (now (entries .exit)) × UnchangedUnless r (now (counts .entry)) (now (counts .exit)) ⌝ }
 {
-    let length = starts[order::LENGTH];
+    let length = starts[second_order::LENGTH];
     if (entries.len() != length) | (counts.len() != length) {
         return false;
     }
-    plies::open(ways, starts, filled, rings, entries, counts);
+    second_passes::open(ways, starts, filled, rings, entries, counts);
     waves(ways, starts, filled, rings, entries, counts);
     true
 }
@@ -117,7 +111,7 @@ fn waves(
 ) {
     let mut depth: u16 = 0;
     while depth < DEEPEST {
-        backwards::wave(ways, starts, filled, rings, depth, entries, counts);
+        second_passes::wave(ways, starts, filled, rings, depth, entries, counts);
         depth = next_depth(entries, depth);
     }
 }

@@ -1,5 +1,2 @@
-pub mod Probed
-pub mod AtRank
-pub mod Blocked
 pub mod Sources
-pub mod Sought
+pub mod Steps

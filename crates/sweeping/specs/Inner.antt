@@ -1,4 +1,1 @@
-pub mod Tables
-pub mod Cursors
 pub mod Levels
-pub mod Marked

@@ -4,7 +4,4 @@ pub mod Sums
 pub mod Compose
 pub mod Least
 pub mod Classes
-pub mod Kept
-pub mod Stores
-pub mod Plies
 pub mod Worked

@@ -7,7 +7,7 @@ use Prim.Native.Nat.{ℕ, _+_, _-_, _*_, _/_, _%_}
 use lib.Dec.{eqb, ltb}
 use lib.ListN.{getD, length, replicate}
 use Rattle.lists.specs.Lists.{values}
-use Rattle.board.specs.Geometry.{ring, place}
+use Rattle.geometry.specs.Geometry.{ring, place}
 
 abbrev pub symmetries : ℕ
 symmetries = 16

@@ -6,14 +6,14 @@ use Prim.Native.Nat.{ℕ, _*_, _≤_}
 use lib.Dec.{eqb}
 use lib.ListN.{length}
 use Rattle.lists.specs.Lists.{any}
-use Rattle.board.specs.declared.position.Position.{Position}
+use Rattle.board.specs.declared.Position.{Position}
 use Rattle.board.specs.Board.{count, boardOf}
 use Rattle.rules.specs.Ply.{removable, listedMoves, successors}
 use Rattle.game.specs.Game.{voidEntry}
-use Rattle.plies.specs.Inner.Masks.{Masks}
-use Rattle.probing.specs.declared.entries.Starts.{Starts}
+use Rattle.masks.specs.Inner.Masks.{Masks}
+use Rattle.tables.specs.declared.Starts.{Starts}
 use Rattle.probing.specs.Inner.Probes.{probe}
-use Rattle.probing.specs.Inner.Questions.{Probing}
+use Rattle.probing.specs.Inner.Conditions.{Probing}
 
 -- the successors' entries can be read, and none is void
 pub record NoneVoid (tablebase lent : List ℕ) (rings : ℕ) (starts : Starts) (position : Position) : Type 0 where

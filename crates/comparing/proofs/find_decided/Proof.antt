@@ -4,8 +4,8 @@ use mathlib.Core.Bool.{not}
 use Prim.Native.Nat.{_-_}
 use native.Mathlib.Omega.{arith}
 use borrow.Author.Tests.{eq-eqb, ne-eqb}
-use Rattle.parts.specs.Inner.Finding.{NoneBefore}
-use Rattle.parts.proofs.Firsts.{passed-none, passed-one, first-here, first-none}
+use Rattle.finding.specs.Inner.Finding.{NoneBefore}
+use Rattle.finding.proofs.Firsts.{passed-none, passed-one, first-here, first-none}
 use Rattle.comparing.specs.Inner.Compared.{isDecided}
 use Rattle.comparing.proofs.find_decided.Statement.{statement}
 use Rattle.comparing.proofs.find_decided.Tie as tie

@@ -5,7 +5,7 @@ use native.Mathlib.Omega.{arith}
 use lib.Dec.{eqb}
 use lib.ListN.{getD, length}
 use Rattle.ranking.specs.Rank.{rank}
-use Rattle.imaging.proofs.OnSets.{image-rank}
+use Rattle.classing.proofs.Written.{image-rank}
 use Rattle.comparing.specs.Inner.Compared.{imageHas}
 use borrow.Author.Needs.{needs}
 use Rattle.comparing.proofs.image_has.Statement.{statement}

@@ -10,9 +10,9 @@ use Rattle.sizes.specs.Size.{size}
 use Rattle.ranking.specs.Unrank.{unrank}
 use Rattle.ranking.proofs.Inverse.{rank-unrank}
 use Rattle.plies.specs.Inner.Positions.{Placed}
-use Rattle.sweeping.specs.Inner.Cursors.{Stands}
-use Rattle.sweeping.proofs.AtRank.{placed-at}
-use Rattle.sweeping.proofs.Sought.{stands-at}
+use Rattle.seeking.specs.Inner.Cursors.{Stands}
+use Rattle.seeking.proofs.Positions.{placed-at}
+use Rattle.seeking.proofs.Positions.{stands-at}
 use Rattle.comparing.specs.Inner.Compared.{sameImages}
 use Rattle.comparing.proofs.Tested.{images-same, AllTested, passed-over, passed-one, passed-all}
 use Rattle.comparing.proofs.is_symmetric.Statement.{statement}

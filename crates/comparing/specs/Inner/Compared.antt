@@ -11,7 +11,7 @@ use Rattle.ranking.specs.Rank.{rank}
 use Rattle.game.specs.Game.{drawEntry}
 use Rattle.symmetry.specs.Symmetries.{image}
 use Rattle.imaging.specs.Inner.Images.{RingImages}
-use Rattle.sweeping.specs.declared.marks.Source.{Source}
+use Rattle.layers.specs.declared.Source.{Source}
 use Rattle.comparing.specs.declared.Entered.{Entered}
 
 -- the lent tables, and a table that lies within a tablebase of a length

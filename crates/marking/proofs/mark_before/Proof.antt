@@ -8,10 +8,10 @@ use lib.Pow.{pow-mono}
 use Rattle.sets.specs.Sets.{bit}
 use Rattle.board.specs.Board.{boardOf}
 use Rattle.plies.proofs.OnPositions.{opponent-small}
-use Rattle.marking.specs.Inner.Marks.{marked, places}
+use Rattle.marks.specs.Inner.Marks.{marked, places}
 use Rattle.marking.specs.Inner.Stones.{beforeStone}
-use Rattle.marking.proofs.Marking.{Marking, marking-none, marking-more, marking-all}
-use Rattle.marking.proofs.Before.{returning-same}
+use Rattle.marks.proofs.Marking.{Marking, marking-none, marking-more, marking-all}
+use Rattle.returning.proofs.Before.{returning-same}
 use Rattle.marking.proofs.Origins.{predecessors-given}
 use Rattle.marking.proofs.mark_before.Statement.{statement}
 use Rattle.marking.proofs.mark_before.Tie as tie

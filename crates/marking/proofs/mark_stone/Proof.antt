@@ -7,9 +7,9 @@ use Rattle.sets.proofs.Elements.{bit-low}
 use Rattle.board.specs.Board.{boardOf}
 use Rattle.rules.specs.Predecessors.{restored}
 use Rattle.plies.proofs.OnPositions.{opponent-small}
-use Rattle.marking.specs.Inner.Marks.{marked, places}
-use Rattle.marking.proofs.Marks.{marked-none}
-use Rattle.marking.proofs.Before.{turned-placed}
+use Rattle.marks.specs.Inner.Marks.{marked, places}
+use Rattle.marks.proofs.Marks.{marked-none}
+use Rattle.returning.proofs.Before.{turned-placed}
 use Rattle.marking.proofs.Origins.{origins-given, origins-vacant, stone-moved, stone-still}
 use borrow.Author.Needs.{needs}
 use Rattle.marking.proofs.mark_stone.Statement.{statement}

@@ -7,14 +7,14 @@ use Rattle.morris_c.proofs.morris_fill.Tie as tie
 fill-requires : tie.Need-fill-requires
 fill-requires c κs = search needs
 
-number-of-requires : tie.Need-number-of-requires
-number-of-requires c κs = search needs
+solved-requires : tie.Need-solved-requires
+solved-requires c κs = search needs
 
 same-length : tie.Need-same-length
 same-length c = search needs
 
 returns : tie.Need-returns
-returns c = told _ (c .number-of .ensures) (c .before .before .before .fill .ensures)
+returns c = told _ (c .solved .ensures) (c .before .before .before .fill .ensures)
 
 pub morris-fill-spec : {M : Type 1} → statement M
-morris-fill-spec = tie.close (tie.spec fill-requires number-of-requires same-length returns)
+morris-fill-spec = tie.close (tie.spec fill-requires solved-requires same-length returns)

@@ -1,29 +1,20 @@
 -- `morris_c::morris_representative` meets its contract: the number and the value of what `morris::representative` answers. Assumes nothing.
-use mathlib.Core.Path.{sym, ap, _∙_}
+use mathlib.Core.Path.{ap, _∙_}
 use borrow.Author.Needs.{needs}
-use Rattle.refusals.specs.Answers.{Answer, number, value}
-use Rattle.morris.specs.RepresentativeCall.{represented}
+use Rattle.answers.specs.Answers.{Answer, number, value}
 use Rattle.morris_c.proofs.morris_representative.Statement.{statement}
 use Rattle.morris_c.proofs.morris_representative.Tie as tie
 
 representative-requires : tie.Need-representative-requires
 representative-requires c κs = search needs
 
-enum-known-answer : tie.Need-enum-known-answer
-enum-known-answer c = search needs
-
-enum-known-answer-2 : tie.Need-enum-known-answer-2
-enum-known-answer-2 c = search needs
+represented-requires : tie.Need-represented-requires
+represented-requires c κs = search needs
 
 returns : tie.Need-returns
 returns c =
-    let e = sym (ap represented (c .before .answer .given .1)) ∙ c .before .before .before .representative .ensures in
-    (ap number e, ap (λ (a : Answer). value a 0) e)
-
-returns-2 : tie.Need-returns-2
-returns-2 c =
-    let e = sym (ap represented (c .before .answer2 .given .1)) ∙ c .before .before .before .representative .ensures in
-    (ap number e, ap (λ (a : Answer). value a 0) e)
+    let e = c .before .before .representative .ensures in
+    (c .represented .ensures .0 ∙ ap number e, c .represented .ensures .1 ∙ ap (λ (a : Answer). value a 0) e)
 
 pub morris-representative-spec : {M : Type 1} → statement M
-morris-representative-spec = tie.close (tie.spec representative-requires enum-known-answer enum-known-answer-2 returns returns-2)
+morris-representative-spec = tie.close (tie.spec representative-requires represented-requires returns)

@@ -3,9 +3,9 @@ use mathlib.Core.Path.{_≡_}
 use mathlib.Core.List.{List}
 use Prim.Native.Nat.{ℕ, _*_, _≤_, _<_}
 use Rattle.sets.specs.Sets.{bit}
-use Rattle.board.specs.declared.position.Position.{Position}
+use Rattle.board.specs.declared.Position.{Position}
 use Rattle.board.specs.Board.{OnBoard}
-use Rattle.plies.specs.Inner.Masks.{Masks}
+use Rattle.masks.specs.Inner.Masks.{Masks}
 
 -- a position of a board of one, two or three rings
 pub record Placed (rings : ℕ) (position : Position) : Type 0 where

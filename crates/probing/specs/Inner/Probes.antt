@@ -1,15 +1,14 @@
 -- What is read of a tablebase to judge a position by its successors: the tables of the successors are given by where they start. Assumes nothing.
 use mathlib.Core.Path.{_≡_}
-use mathlib.Core.Bool.{Bool, true, false, _&&_}
+use mathlib.Core.Bool.{true, false}
 use mathlib.Core.List.{List}
 use mathlib.Core.Logic.{_⊎_}
 use Prim.Native.Nat.{ℕ, suc, _+_, _-_, _≤_}
-use lib.Dec.{eqb, leb, ltb}
+use lib.Dec.{eqb, ltb}
 use lib.ListN.{getD}
 use Rattle.board.specs.Board.{count}
 use Rattle.sizes.specs.Size.{size}
 use Rattle.ranking.specs.Rank.{rank}
-use Rattle.game.specs.Judgement.{isWon}
 
 -- the entry of a successor of a position with o opposing stones: from the table that starts at `same` where no stone was removed, else 0 for a
 -- side with two stones, else from the table that starts at `fewer`
@@ -27,11 +26,3 @@ StonesLeft o m = (m ≡ o) ⊎ (suc m ≡ o)
 pub record Reads (length points m o same fewer : ℕ) : Type 0 where
   pub same-room : same + size points o m ≤ length
   pub fewer-room : 4 ≤ o → fewer + size points (o - 1) m ≤ length
-
--- entries in an order of their own: the won ones by depth, then the lost ones by depth, then void and draw
-unfoldable pub key : ℕ → ℕ
-key e = elim (isWon e) [ true ↦ e | false ↦ 65536 + e ]
-
--- an entry whose key is from `low` on and below `high`: what is asked of a successor
-unfoldable pub asked : ℕ → ℕ → ℕ → Bool
-asked low high e = leb low (key e) && ltb (key e) high

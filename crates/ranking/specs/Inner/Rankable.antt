@@ -1,7 +1,7 @@
 -- What the functions on ranks ask of their caller: the lent binomials, and a position of a board of so many points. Assumes nothing.
 use mathlib.Core.List.{List}
 use Prim.Native.Nat.{ℕ, _≤_}
-use Rattle.board.specs.declared.position.Position.{Position}
+use Rattle.board.specs.declared.Position.{Position}
 use Rattle.board.specs.Board.{OnBoard}
 use Rattle.sizes.specs.Inner.Binomial.{BinomialTable}
 

@@ -1,28 +1,47 @@
--- What the solver of a pair asks and answers. Assumes nothing.
+-- What the solver of a pair by its counts asks, and what the solver of pair by pair asks and answers. Assumes nothing.
 use mathlib.Core.Path.{_≡_}
 use mathlib.Core.Bool.{Bool, true, false}
 use mathlib.Core.List.{List}
-use Prim.Native.Nat.{ℕ, _*_, _≤_}
+use Prim.Native.Nat.{ℕ, _*_, _≤_, _<_}
+use lib.ListN.{length}
 use Rattle.layout.specs.Layout.{tablebaseLength}
-use Rattle.outcomes.specs.Pair.{Pair, pairSeed}
-use Rattle.outcomes.specs.Whole.{wholeSeed}
-use Rattle.outcomes.specs.Filled.{AllTables, BothTables, Fill}
-use Rattle.outcomes.specs.Order.{Beyond}
+use Rattle.game.specs.Game.{voidEntry}
+use Rattle.outcomes.specs.Pair.{Pair, LowerValid}
 use Rattle.outcomes.specs.Inner.Done.{TrueOn, DoneBefore}
-use Rattle.sweeping.specs.declared.tables.Table.{Table}
-use Rattle.sweeping.specs.Inner.Tables.{Located}
+use Rattle.outcomes.specs.Whole.{wholeSeed}
+use Rattle.outcomes.specs.Filled.{AllTables, Fill}
+use Rattle.outcomes.specs.Order.{Beyond}
+use Rattle.invariance.specs.Inner.Used.{Used}
+use Rattle.imaging.specs.Inner.Images.{RingImages}
+use Rattle.filling.specs.declared.Bounds.{Bounds}
+use Rattle.solver.specs.declared.Counts.{Counts}
 
--- a and b are the tables (m, o) and (o, m) of a tablebase of a length
-pub record Setting (length rings k m o : ℕ) (a b : Table) : Type 0 where
-  pub pair : Pair rings k m o
-  pub few : k ≤ 9
-  pub room : length ≡ tablebaseLength (8 * rings) k
-  pub first : Located (8 * rings) k m o a
-  pub second : Located (8 * rings) k o m b
+-- a pair of a tablebase by its counts, over lower tables that hold no void
+pub record PairGiven (lent tablebase : List ℕ) (bounds : Bounds) (counts : Counts) : Type 0 where
+  pub pair : Pair (bounds .rings) (bounds .k) (counts .mover) (counts .opponent)
+  pub few : bounds .k ≤ 9
+  pub room : length tablebase ≡ tablebaseLength (8 * bounds .rings) (bounds .k)
+  pub valid : LowerValid (bounds .rings) (bounds .k) (counts .mover) (counts .opponent) tablebase
+  pub limit-low : bounds .limit < voidEntry
+  pub images : RingImages lent
 
--- the pair is filled, or some position is too deep
-abbrev pub PairFill : ℕ → ℕ → ℕ → ℕ → ℕ → List ℕ → List ℕ → Bool → Type 0
-PairFill rings k m o limit before after deep = Fill rings k limit (BothTables m o) (λ b. pairSeed rings k m o before b) before after deep
+-- the pairs with m stones to the larger side, where all smaller pairs are filled
+pub record RowGiven (lent tablebase : List ℕ) (bounds : Bounds) (maps m : ℕ) : Type 0 where
+  pub pair : Pair (bounds .rings) (bounds .k) m m
+  pub few : bounds .k ≤ 9
+  pub room : length tablebase ≡ tablebaseLength (8 * bounds .rings) (bounds .k)
+  pub done : TrueOn (bounds .rings) (bounds .k) (bounds .limit) (DoneBefore m 3) tablebase
+  pub limit-low : bounds .limit < voidEntry
+  pub images : RingImages lent
+  pub used : Used maps
+
+-- a whole tablebase
+pub record AllGiven (lent : List ℕ) (length : ℕ) (bounds : Bounds) : Type 0 where
+  pub some : 3 ≤ bounds .k
+  pub few : bounds .k ≤ 9
+  pub room : length ≡ tablebaseLength (8 * bounds .rings) (bounds .k)
+  pub limit-low : bounds .limit < voidEntry
+  pub images : RingImages lent
 
 -- the pairs before (m, o) are filled, or some position of the tablebase is too deep
 abbrev pub PairsFilled : ℕ → ℕ → ℕ → ℕ → ℕ → List ℕ → Bool → Type 0

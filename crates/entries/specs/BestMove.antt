@@ -1,0 +1,19 @@
+-- The best move of a board in a tablebase (document 01: "A best move is the first listed among: quickest win, else a draw, else longest loss, judged
+-- by the successors' entries"), and the board that it leads to. Assumes nothing.
+use mathlib.Core.List.{List}
+use Prim.Native.Nat.{ℕ}
+use Rattle.rules.specs.Ply.{listedMoves, afterPly}
+use Rattle.outcomes.specs.Places.{successorEntry}
+use Rattle.bestmove.specs.Best.{bestMove}
+
+-- what a move is judged by: the entry of the successor that it leads to
+abbrev pub entryAfter : ℕ → ℕ → List ℕ → List ℕ → ℕ → ℕ
+entryAfter rings k tablebase b move = successorEntry rings k tablebase (afterPly b move)
+
+-- "the first listed among: quickest win, else a draw, else longest loss, judged by the successors' entries"
+unfoldable pub bestListed : ℕ → ℕ → List ℕ → List ℕ → ℕ
+bestListed rings k tablebase b = bestMove (λ move. entryAfter rings k tablebase b move) (listedMoves rings b)
+
+-- the board that it leads to
+unfoldable pub bestSuccessor : ℕ → ℕ → List ℕ → List ℕ → List ℕ
+bestSuccessor rings k tablebase b = afterPly b (bestListed rings k tablebase b)

@@ -1,0 +1,2 @@
+pub mod BestMove
+pub mod Inner

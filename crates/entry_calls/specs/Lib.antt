@@ -1,0 +1,2 @@
+pub mod LookupCall
+pub mod BestMoveCall

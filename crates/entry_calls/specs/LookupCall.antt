@@ -1,0 +1,11 @@
+-- The call `lookup` (document 01: "rings and a board, for .. its entry in a shelf"). Assumes nothing.
+use mathlib.Core.List.{List, [], _∷_}
+use Prim.Native.Nat.{ℕ}
+use Rattle.outcomes.specs.Places.{entryAt}
+use Rattle.refusals.specs.Refusals.{refusal}
+use Rattle.refusals.specs.Conditions.{lookupPicks}
+use Rattle.answers.specs.Answers.{Answer, answer}
+
+-- 1, 2, 3, 4, 11, 6, 12; else the entry
+unfoldable pub lookupCall : ℕ → List ℕ → ℕ → List ℕ → Answer
+lookupCall rings b k tablebase = answer (refusal (lookupPicks rings b k tablebase)) (entryAt rings k tablebase b ∷ [])

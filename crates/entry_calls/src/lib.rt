@@ -1,0 +1,54 @@
+// The entry of a board in a tablebase, and its best move.
+ghost use mathlib.Core.Path.{_≡_};
+ghost use Rattle.answers.specs.Answers.{looked, chosen};
+ghost use Rattle.entry_calls.specs.LookupCall.{lookupCall};
+ghost use Rattle.entry_calls.specs.BestMoveCall.{bestMoveCall};
+use answers::Chosen;
+use answers::Looked;
+use entries::Choice;
+
+// The entry of a board in a tablebase of largest count k: 65,535 draw, else plies to the end, even lost, odd won. Refusals: 1, 2, 3, 4, 11, 6, 12.
+pub fn lookup(rings: u8, board: &[u8], k: u8, tablebase: &[u16]) -> Looked
+    ensures { λ r. ⌜ looked r ≡ lookupCall rings (now (board .entry)) k (now (tablebase .entry)) ⌝ }
+{
+    let binomials = sizes::binomial_table();
+    let refusal = tablebase_refusals::of_tablebase(&binomials, rings, board, k, tablebase.len());
+    if refusal != 0 {
+        return Looked::Refused(refusal);
+    }
+    let position = board::position_of(board);
+    let entry = entries::entry_of(tablebase, &binomials, rings as usize, k as usize, position);
+    if entry == parts::VOID {
+        return Looked::Refused(refusals::VOID_READ);
+    }
+    Looked::Entry(entry)
+}
+
+// The best move of a board by the entries of its successors: the first listed among quickest win, else a draw, else longest loss.
+// Refusals: 1, 2, 3, 4, 11, 6, 9, 12.
+pub fn best_move(rings: u8, board: &[u8], k: u8, tablebase: &[u16]) -> Chosen
+    ensures { λ r. ⌜ chosen r ≡ bestMoveCall rings (now (board .entry)) k (now (tablebase .entry)) ⌝ }
+{
+    let binomials = sizes::binomial_table();
+    let refusal = tablebase_refusals::of_tablebase(&binomials, rings, board, k, tablebase.len());
+    if refusal != 0 {
+        return Chosen::Refused(refusal);
+    }
+    let masks = masks::masks_of(rings as usize);
+    let position = board::position_of(board);
+    match entries::best_of(
+        tablebase,
+        &binomials,
+        &masks,
+        rings as usize,
+        k as usize,
+        position,
+    ) {
+        Choice::Blocked => Chosen::Refused(refusals::BLOCKED),
+        Choice::Void => Chosen::Refused(refusals::VOID_READ),
+        Choice::Move { number, entry } => Chosen::Move {
+            number: number,
+            entry: entry,
+        },
+    }
+}

@@ -1,0 +1,1 @@
+// Demand 3, of the calls that fill: theorems only.

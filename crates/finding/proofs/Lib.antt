@@ -1,0 +1,4 @@
+pub mod Down
+pub mod Firsts
+pub mod LeastDepth
+pub mod Occurs

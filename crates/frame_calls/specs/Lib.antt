@@ -1,0 +1,2 @@
+pub mod ReadFrameCall
+pub mod WriteFrameCall

@@ -1,0 +1,2 @@
+pub mod LowerVoid
+pub mod LowerMaps

@@ -1,0 +1,108 @@
+-- `move_calls::moves` meets its contract: a refusal of the board, then of the list, or the moves. Assumes nothing.
+use mathlib.Core.Path.{_≡_, sym, ap, _∙_}
+use mathlib.Core.Bool.{Bool, cond}
+use mathlib.Core.List.{[], _∷_}
+use Prim.Native.Nat.{ℕ}
+use native.Mathlib.Omega.{arith}
+use lib.ListN.{length}
+use lib.Seq.{sets}
+use borrow.Author.Tests.{lt-ltb, le-ltb}
+use borrow.Author.Needs.{needs}
+use Rattle.rules.specs.Ply.{listedMoves}
+use Rattle.refusals.specs.Refusals.{refusal}
+use Rattle.refusals.specs.Conditions.{boardPicks}
+use Rattle.move_calls.specs.MovesCall.{movesCall, movesList}
+use Rattle.refusals.proofs.Conditions.{Accepted, accepted-board, short-refused, short-decides, few-points}
+use Rattle.positions.proofs.Positions.{ShowsBoard, board-shown}
+use Rattle.answers.proofs.Answering.{turned-back, written}
+use Rattle.move_calls.proofs.moves.Statement.{statement}
+use Rattle.move_calls.proofs.moves.Tie as tie
+
+-- the start of the call, seen from past its first refusals; and those passed, seen from where the position is known
+abbrev started : tie.Else1 → tie.Start
+started c = c .before .before .before .before
+
+abbrev placing : tie.After-position-of → tie.Else1
+placing c = c .before .before
+
+-- past the first refusals the board is accepted, and its position shows it
+passed-board : (c : tie.Else1) → 0 ≡ refusal (boardPicks (started c .args .rings) (started c .args .board .now))
+passed-board c = sym (c .if1 .left) ∙ c .before .of-board .ensures
+
+board : (c : tie.Else1) → Accepted (started c .args .rings) (started c .args .board .now)
+board c = accepted-board _ _ (sym (passed-board c))
+
+shows : (c : tie.After-position-of) → ShowsBoard (started (placing c) .args .rings) (started (placing c) .args .board .now) (c .position-of .result)
+shows c = board-shown _ _ (board (placing c)) _ (c .position-of .ensures)
+
+of-board-requires : tie.Need-of-board-requires
+of-board-requires c κs = search needs
+
+returns : tie.Need-returns
+unfolding movesCall movesList
+returns c =
+    let a = c .before .before .before .before .args in
+    let n = c .before .of-board .result in
+    turned-back _ _ _ _ n (c .if1 .taken)
+    (short-refused (a .rings) (a .board .now) (length (a .list .now)) (length (listedMoves (a .rings) (a .board .now))) n (c .if1 .taken)
+    (c .before .of-board .ensures))
+
+masks-of-requires : tie.Need-masks-of-requires
+masks-of-requires c κs = board c .rings-high
+
+position-of-requires : tie.Need-position-of-requires
+position-of-requires c κs = few-points _ _ (board (c .before))
+
+count-moves-requires : tie.Need-count-moves-requires
+count-moves-requires c κs = let p = c .before in record { masks = p .before .masks-of .ensures; placed = shows p .placed }
+
+returns-2 : tie.Need-returns-2
+unfolding movesCall movesList
+returns-2 c =
+    let n = c .before in
+    let p = n .before .before in
+    let x = placing p in
+    let a = started x .args in
+    let m = length (listedMoves (a .rings) (a .board .now)) in
+    let short = lt-ltb (length (a .list .now)) m (omega (arith, c .if2 .taken, n .count-moves .ensures, ap length (shows p .moves-back))) in
+    turned-back _ _ _ _ 7 (λ z. absurd (omega arith))
+    (sym (short-decides (a .rings) (a .board .now) (length (a .list .now)) m (passed-board x) ∙ ap (λ (t : Bool). cond t 7 0) short))
+
+list-moves-requires : tie.Need-list-moves-requires
+list-moves-requires c κs =
+    let e = c .before .before in
+    let n = e .before in
+    let p = n .before .before in
+    (record { masks = p .before .masks-of .ensures; placed = shows p .placed }, omega (arith, e .if2 .left, n .count-moves .ensures))
+
+same-length : tie.Need-same-length
+same-length c = search needs
+
+returns-3 : tie.Need-returns-3
+unfolding movesCall movesList
+returns-3 c =
+    let e = c .before .before .before .before .before in
+    let n = e .before in
+    let p = n .before .before in
+    let x = placing p in
+    let a = started x .args in
+    let m = length (listedMoves (a .rings) (a .board .now)) in
+    let fits = le-ltb (length (a .list .now)) m (omega (arith, e .if2 .left, n .count-moves .ensures, ap length (shows p .moves-back))) in
+    written _ _ _ _ _ _
+    (sym (short-decides (a .rings) (a .board .now) (length (a .list .now)) m (passed-board x) ∙ ap (λ (t : Bool). cond t 7 0) fits))
+    (ap (λ (k : ℕ). k ∷ []) (n .count-moves .ensures ∙ ap length (shows p .moves-back)))
+    (c .before .before .list-moves .ensures ∙ ap (sets (a .list .now) 0) (shows p .moves-back))
+
+pub moves-spec : {M : Type 1} → statement M
+moves-spec =
+    tie.close
+    (tie.spec
+    of-board-requires
+    returns
+    masks-of-requires
+    position-of-requires
+    count-moves-requires
+    returns-2
+    list-moves-requires
+    same-length
+    returns-3)

@@ -1,0 +1,2 @@
+pub mod MovesCall
+pub mod MakeMoveCall

@@ -1,0 +1,45 @@
+// The moves of a board, and the board after a move.
+ghost use mathlib.Core.Path.{_≡_};
+ghost use Rattle.answers.specs.Answers.{listed, made};
+ghost use Rattle.move_calls.specs.MovesCall.{movesCall, movesList};
+ghost use Rattle.move_calls.specs.MakeMoveCall.{makeMoveCall, makeMoveTarget};
+use answers::Listed;
+use answers::Made;
+
+// Lists a board's moves by rising number at the start of the list; 324 places are always enough. Refusals: 1, 2, 3, 4, 7.
+pub fn moves(rings: u8, board: &[u8], list: &mut [u16]) -> Listed
+    ensures answer { λ r. ⌜ listed r ≡ movesCall rings (now (board .entry)) (now (list .entry)) ⌝ }
+    ensures list { λ _. ⌜ now (list .exit) ≡ movesList rings (now (board .entry)) (now (list .entry)) ⌝ }
+{
+    let refusal = board_refusals::of_board(rings, board);
+    if refusal != 0 {
+        return Listed::Refused(refusal);
+    }
+    let masks = masks::masks_of(rings as usize);
+    let position = board::position_of(board);
+    let count = listing::count_moves(rings as usize, &masks, position);
+    if list.len() < count {
+        return Listed::Refused(refusals::SHORT_TARGET);
+    }
+    listing::list_moves(rings as usize, &masks, position, list);
+    Listed::Count(count)
+}
+
+// Writes the board after a listed move over the target, of 8 × rings bytes: the sides have changed names. Refusals: 1, 2, 3, 4, 6, 8.
+pub fn make_move(rings: u8, board: &[u8], number: u16, target: &mut [u8]) -> Made
+    ensures answer { λ r. ⌜ made r ≡ makeMoveCall rings (now (board .entry)) number (now (target .entry)) ⌝ }
+    ensures target { λ _. ⌜ now (target .exit) ≡ makeMoveTarget rings (now (board .entry)) number (now (target .entry)) ⌝ }
+{
+    let refusal = board_refusals::of_target(rings, board, target.len());
+    if refusal != 0 {
+        return Made::Refused(refusal);
+    }
+    let masks = masks::masks_of(rings as usize);
+    let position = board::position_of(board);
+    if making::is_move(rings as usize, &masks, position, number as usize) {
+        let after = making::after_ply(rings as usize, position, number as usize);
+        board::write_board(after, target);
+        return Made::Written;
+    }
+    Made::Refused(refusals::MOVE)
+}

@@ -1,0 +1,1 @@
+// What the calls say of classes: theorems only.

@@ -1,0 +1,88 @@
+-- The calls `moves` and `make_move` together: a list of 324 places is never too short, each listed move is made, and the board after it is accepted
+-- again unless its mover is left with two stones. Assumes nothing.
+use mathlib.Core.Path.{_≡_, sym, ap, _∙_}
+use mathlib.Core.Bool.{Bool, true, cond, not}
+use mathlib.Core.List.{List, [], _∷_}
+use mathlib.Core.Logic.{inl, inr}
+use Prim.Native.Nat.{ℕ, _*_, _≤_}
+use native.Mathlib.Omega.{arith}
+use lib.ListN.{length}
+use lib.Seq.{sets}
+use borrow.Author.Tests.{le-ltb}
+use Rattle.lists.specs.Lists.{member}
+use Rattle.lists.proofs.Tests.{member-is}
+use Rattle.board.specs.Board.{count}
+use Rattle.board.proofs.Counts.{count-all}
+use Rattle.rules.specs.Ply.{removable, listedMoves, removedOf, afterPly}
+use Rattle.rules.proofs.Bound.{moves-bound}
+use Rattle.rules.proofs.Listed.{removable-takes}
+use Rattle.rules.proofs.Leads.{MoverLeft, ply-leads}
+use Rattle.refusals.specs.Refusals.{refusalTable, pickedRows, refusal}
+use Rattle.refusals.specs.Conditions.{boardPicks, targetPicks, movePicks, shortPicks}
+use Rattle.answers.specs.Answers.{accepted}
+use Rattle.move_calls.specs.MovesCall.{movesCall, movesList}
+use Rattle.move_calls.specs.MakeMoveCall.{makeMoveCall, makeMoveTarget}
+use Rattle.refusals.proofs.FirstRefusal.{passes}
+use Rattle.refusals.proofs.Conditions.{RightCounts, Accepted, accepted-board, rings-fine, length-fine, values-fine, counts-fine, short-decides}
+use Rattle.refusals.proofs.Conditions.{target-decides, move-decides}
+use Rattle.answers.proofs.Answering.{answer-accepted, target-written}
+
+module _ (rings : ℕ) (b : List ℕ) (e : refusal (boardPicks rings b) ≡ 0) where
+  board : Accepted rings b
+  board = accepted-board rings b e
+
+  -- what `moves` answers and lists where there are 324 places
+  pub list-enough : (old : List ℕ) → 324 ≤ length old
+      → (movesCall rings b old ≡ accepted (length (listedMoves rings b) ∷ [])) × (movesList rings b old ≡ sets old 0 (listedMoves rings b))
+  unfolding movesCall movesList
+  list-enough old room =
+      let w = board in
+      let c = w .counted in
+      let few = moves-bound rings (w .rings-high) b (w .points) (w .values) (c .mover-high) (omega (arith, c .opponent-low)) (c .opponent-high) in
+      let n : ℕ = length (listedMoves rings b) in
+      let z : 0 ≡ refusal (shortPicks rings b (length old) n) =
+      sym (short-decides rings b (length old) n (sym e) ∙ ap (λ (t : Bool). cond t 7 0) (le-ltb (length old) n (omega (arith, few, room)))) in (
+        sym (answer-accepted (refusal (shortPicks rings b (length old) n)) (n ∷ []) z),
+        sym (target-written (refusal (shortPicks rings b (length old) n)) (sets old 0 (listedMoves rings b)) old z),
+      )
+
+  module _ (move : ℕ) (listed : member move (listedMoves rings b) ≡ true) where
+    -- what `make_move` answers and writes for a listed move
+    pub listed-made : (old : List ℕ) → length old ≡ 8 * rings
+        → (makeMoveCall rings b move old ≡ accepted []) × (makeMoveTarget rings b move old ≡ afterPly b move)
+    unfolding makeMoveCall makeMoveTarget
+    listed-made old room =
+        let t : 0 ≡ refusal (targetPicks rings b (length old)) =
+        sym (target-decides rings b (length old) (sym e) ∙ ap (λ (x : Bool). cond x 6 0) (length-fine rings (length old) room)) in
+        let z : 0 ≡ refusal (movePicks rings b move (length old)) =
+        sym (move-decides rings b (length old) move t ∙ ap (λ (x : Bool). cond (not x) 8 0) listed) in (
+          sym (answer-accepted (refusal (movePicks rings b move (length old))) [] z),
+          sym (target-written (refusal (movePicks rings b move (length old))) (afterPly b move) old z),
+        )
+
+    -- the board after it meets no condition, unless its mover has two stones
+    pub after-accepted : 3 ≤ count 1 (afterPly b move) → refusal (boardPicks rings (afterPly b move)) ≡ 0
+    after-accepted three =
+        let w = board in
+        let c = w .counted in
+        let l = ply-leads (λ n d. removable n d) removable-takes rings (w .rings-high) b (w .values) (w .points) move
+        (member-is move (listedMoves rings b) listed) in
+        let p = l .points ∙ w .points in
+        let counted : RightCounts (8 * rings) (count 1 (afterPly b move)) (count 2 (afterPly b move)) = record {
+          mover-low = three;
+          mover-high = high (l .mover) (c .opponent-high);
+          opponent-low = omega (arith, l .opponent, c .mover-low);
+          opponent-high = omega (arith, l .opponent, c .mover-high);
+          stones-fit = omega (arith, count-all (afterPly b move) (l .values), p);
+        } in
+        sym (passes (pickedRows refusalTable (boardPicks rings (afterPly b move))) (
+          rings-fine rings (w .rings-low) (w .rings-high),
+          (
+            length-fine rings (length (afterPly b move)) p,
+            (values-fine (afterPly b move) (l .values), (counts-fine (8 * rings) (count 1 (afterPly b move)) (count 2 (afterPly b move)) counted, tt)),
+          ),
+        ))
+      where
+        high : MoverLeft b (afterPly b move) (removedOf move) → count 2 b ≤ 9 → count 1 (afterPly b move) ≤ 9
+        high (inl q) h = omega (arith, q .1)
+        high (inr q) h = omega (arith, q .1)

@@ -1,0 +1,1 @@
+// Play by the calls: each listed move is made, and best moves win in time. Theorems only.

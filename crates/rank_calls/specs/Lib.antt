@@ -1,0 +1,2 @@
+pub mod RankCall
+pub mod UnrankCall

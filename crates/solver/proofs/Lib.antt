@@ -1,9 +1,0 @@
-pub mod PairTables
-pub mod States
-pub mod NextLevel
-pub mod PairSteps
-pub mod Answered
-pub mod PairStates
-pub mod LowerVoid
-pub mod PairClasses
-pub mod LowerMaps
