@@ -1,0 +1,65 @@
+"""Moves listed and made, and sums of moves over tables."""
+
+import calls
+from cases.notation import THREE_RINGS, answered, board, done, numbers, points
+
+# Rings, board, and the room of the list.
+LISTS = (
+    # Document 01's own board, a shield, no shield, the vacated point, four stones on one ring, two rings, three rings.
+    (1, "02122011", 10), (1, "21011222", 4), (1, "01011222", 8), (1, "22201011", 9), (1, "20211211", 2),
+    (2, "0001001002220101", 12), (3, THREE_RINGS, 9),
+    # Each refusal; a list just too short and one just long enough; a blocked mover with no list at all.
+    (0, "02122011", 2), (1, "2122011", 2), (1, "02122311", 2), (1, "02022011", 2), (1, "02122011", 7),
+    (1, "02122011", 8), (1, "22221111", 0),
+)
+
+# Rings, board, move, and the length of the target.
+MOVES = (
+    # With a removal and without; moves that are not listed.
+    (1, "02122011", 5187, 8), (1, "02122011", 5188, 8), (1, "02122011", 95, 8), (1, "02122011", 96, 8),
+    (1, "02122011", 5215, 8), (1, "02122011", 65535, 8),
+    # Each refusal, and the first of two.
+    (1, "02122011", 96, 9), (1, "02022011", 95, 9), (1, "02132011", 95, 8), (1, "2122011", 95, 7), (4, "02122011", 95, 8),
+    (3, THREE_RINGS, 18996, 24),
+)
+
+# Rings, counts, how many ranks, and how far apart: whole tables of one ring, tables of two and three from end to end.
+SUMS = (
+    (1, 3, 3, 560, 1), (1, 4, 3, 280, 1), (2, 3, 4, 20000, 20), (2, 5, 4, 20000, 72),
+    (3, 3, 9, 20000, 29745), (3, 4, 3, 20000, 605), (3, 9, 9, 20000, 327202),
+)
+
+
+def moves(rings, text, room):
+    refusal, count, target = calls.moves(rings, board(text), [7] * room)
+    return f"moves {rings} {text}:{answered(refusal, count)} in{numbers(target)}"
+
+
+def make_move(rings, text, move, length):
+    refusal, target = calls.make_move(rings, board(text), move, bytes([7] * length))
+    return f"make move {rings} {text} {move}:{done(refusal, 'written')} {points(target)}"
+
+
+# The rank of the board after a move, 1000 where its mover has two stones.
+def next_rank(rings, board, move):
+    after = calls.make_move(rings, board, move, board)[1]
+    refusal, rank = calls.rank(rings, after)
+    return 1000 if refusal else rank
+
+
+# A board's moves: how many, their numbers, and the ranks that they lead to, added up.
+def sum_at(rings, mover, opponent, rank):
+    board = calls.unrank(rings, mover, opponent, rank, bytes(8 * rings))[1]
+    _, count, target = calls.moves(rings, board, [0] * 324)
+    return count + sum(move + next_rank(rings, board, move) for move in target[:count])
+
+
+def sum_of_moves(rings, mover, opponent, ranks, step):
+    total = sum(sum_at(rings, mover, opponent, step * i) for i in range(ranks))
+    return f"sum of moves {rings} {mover} {opponent}: {total}"
+
+
+def lines():
+    yield from (moves(*case) for case in LISTS)
+    yield from (make_move(*case) for case in MOVES)
+    yield from (sum_of_moves(*case) for case in SUMS)
