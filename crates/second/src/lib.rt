@@ -1,4 +1,5 @@
-// A second solver, written apart: it shares no code, no table and no definition with the other crates, so what both find was found twice.
+// A second solver, written apart: it shares no code, no table and no definition with the other crates, so what both find was found twice. It comes to
+// the order of places on its own way too: positions are gone through one after another, and ranks are counted.
 //
 // The tablebase is found backwards. A first pass counts the plies of each position and writes the ends; then, depth by depth, each position of
 // that depth is taken back by every ply that can have led to it. What stood before a lost position is won; what stood before a won one has a
@@ -18,9 +19,8 @@ pub fn solve(rings: u8, k: u8, entries: &mut [u16], counts: &mut [u16]) -> bool
     if outside(rings, k) {
         return false;
     }
-    let ways = second_order::ways_table();
-    let starts = second_order::starts_table(&ways, rings, k);
-    fill(&ways, &starts, &starts, rings, entries, counts)
+    let starts = second_order::starts_table(rings, k);
+    fill(&starts, &starts, rings, entries, counts)
 }
 
 // Fills the tables (mover, opponent) and (opponent, mover) of such a tablebase and leaves the others as they are. The entries of
@@ -39,13 +39,12 @@ pub fn solve_pair(
     if outside(rings, k) {
         return false;
     }
-    let ways = second_order::ways_table();
-    let starts = second_order::starts_table(&ways, rings, k);
+    let starts = second_order::starts_table(rings, k);
     if second_order::start_of(&starts, mover, opponent) == second_order::NO_TABLE {
         return false;
     }
     let pair = second_order::pair_of(&starts, mover, opponent);
-    fill(&ways, &starts, &pair, rings, entries, counts)
+    fill(&starts, &pair, rings, entries, counts)
 }
 
 fn outside(rings: u8, k: u8) -> bool {
@@ -54,7 +53,6 @@ fn outside(rings: u8, k: u8) -> bool {
 
 // Fills the tables whose starts are in `filled`, if the lengths are those of the tablebase.
 fn fill(
-    ways: &[usize; 2500],
     starts: &[usize; 101],
     filled: &[usize; 101],
     rings: u8,
@@ -67,8 +65,8 @@ fn fill(
     if (entries.len() != length) | (counts.len() != length) {
         return false;
     }
-    second_passes::open(ways, starts, filled, rings, entries, counts);
-    waves(ways, starts, filled, rings, entries, counts);
+    second_passes::open(starts, filled, rings, entries, counts);
+    waves(starts, filled, rings, entries, counts);
     true
 }
 
@@ -102,7 +100,6 @@ fn next_depth(entries: &[u16], depth: u16) -> u16
 
 // Waves of rising depth, as long as an entry states a greater one. The deepest is not taken back, since one ply more is no depth.
 fn waves(
-    ways: &[usize; 2500],
     starts: &[usize; 101],
     filled: &[usize; 101],
     rings: u8,
@@ -111,7 +108,7 @@ fn waves(
 ) {
     let mut depth: u16 = 0;
     while depth < DEEPEST {
-        second_passes::wave(ways, starts, filled, rings, depth, entries, counts);
+        second_passes::wave(starts, filled, rings, depth, entries, counts);
         depth = next_depth(entries, depth);
     }
 }

@@ -16,6 +16,17 @@ pub fn put(board: &mut [u8; 24], p: usize, v: u8) {
     }
 }
 
+// How many points have a value.
+pub fn stones(board: &[u8; 24], v: u8) -> usize {
+    let mut n = 0;
+    let mut p = 0;
+    while p < 24 {
+        n = std::num::wrapping_add_usize(n, (at(board, p) == v) as usize);
+        p += 1;
+    }
+    n
+}
+
 // The board with one stone moved.
 pub fn moved(board: &[u8; 24], from: usize, to: usize) -> [u8; 24] {
     let mut next = *board;

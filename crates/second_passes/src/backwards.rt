@@ -3,11 +3,13 @@ use super::plies::OPEN;
 use super::plies::goes;
 use super::plies::may_be_taken;
 use second_order::NO_TABLE;
+use second_order::Position;
 use second_order::at;
+use second_order::first_position;
 use second_order::follows;
 use second_order::in_mill;
 use second_order::moved;
-use second_order::position_at;
+use second_order::next_position;
 use second_order::rank;
 use second_order::start_of;
 use second_order::with_stone;
@@ -25,13 +27,6 @@ struct Move {
     ply: Ply,
     to: usize,
     from: usize,
-}
-
-// A position found: the rings, its depth and its place.
-struct Found {
-    rings: u8,
-    depth: u16,
-    place: usize,
 }
 
 // One ply less at a place; how many are left.
@@ -66,7 +61,6 @@ fn settle(depth: u16, place: usize, entries: &mut [u16], counts: &mut [u16]) {
 
 // A position that the ply leads from, with this many opposing stones, if its table is to be filled.
 fn reach(
-    ways: &[usize; 2500],
     filled: &[usize; 101],
     ply: Ply,
     opponent: u8,
@@ -78,13 +72,12 @@ fn reach(
     if start == NO_TABLE {
         return;
     }
-    let place = std::num::wrapping_add_usize(start, rank(ways, ply.rings, board));
+    let place = std::num::wrapping_add_usize(start, rank(ply.rings, board));
     settle(ply.depth, place, entries, counts);
 }
 
 // With the stone back that a mill took from a point, if it may have taken it. The point that the move went to was vacant before.
 fn with_taken(
-    ways: &[usize; 2500],
     filled: &[usize; 101],
     last: Move,
     board: &[u8; 24],
@@ -99,13 +92,12 @@ fn with_taken(
     let before = with_stone(board, taken, 2);
     if may_be_taken(&before, ply.rings, taken) {
         let opponent = std::num::wrapping_add_u8(ply.o, 1);
-        reach(ways, filled, ply, opponent, &before, entries, counts);
+        reach(filled, ply, opponent, &before, entries, counts);
     }
 }
 
 // With a move taken back. One that closed a mill took a stone, any that it may have taken, and another move took none.
 fn back_to(
-    ways: &[usize; 2500],
     filled: &[usize; 101],
     last: Move,
     board: &[u8; 24],
@@ -118,20 +110,19 @@ fn back_to(
     }
     let before = moved(board, last.to, last.from);
     if !in_mill(board, ply.rings, last.to) {
-        reach(ways, filled, ply, ply.o, &before, entries, counts);
+        reach(filled, ply, ply.o, &before, entries, counts);
         return;
     }
     let points = 8 * ply.rings as usize;
     let mut taken = 0;
     while taken < points {
-        with_taken(ways, filled, last, &before, taken, entries, counts);
+        with_taken(filled, last, &before, taken, entries, counts);
         taken += 1;
     }
 }
 
 // With every move to a point taken back, if the side that moved has a stone there.
 fn back_from(
-    ways: &[usize; 2500],
     filled: &[usize; 101],
     ply: Ply,
     board: &[u8; 24],
@@ -145,14 +136,13 @@ fn back_from(
     let points = 8 * ply.rings as usize;
     let mut from = 0;
     while from < points {
-        back_to(ways, filled, Move { ply, to, from }, board, entries, counts);
+        back_to(filled, Move { ply, to, from }, board, entries, counts);
         from += 1;
     }
 }
 
 // With every last ply of a board taken back.
 fn back(
-    ways: &[usize; 2500],
     filled: &[usize; 101],
     ply: Ply,
     board: &[u8; 24],
@@ -162,7 +152,7 @@ fn back(
     let points = 8 * ply.rings as usize;
     let mut to = 0;
     while to < points {
-        back_from(ways, filled, ply, board, to, entries, counts);
+        back_from(filled, ply, board, to, entries, counts);
         to += 1;
     }
 }
@@ -191,37 +181,34 @@ fn turned(board: &[u8; 24]) -> [u8; 24] {
 
 // Takes the position at a place back if it has this depth and a table to be filled can come before it.
 fn visit(
-    ways: &[usize; 2500],
-    starts: &[usize; 101],
     filled: &[usize; 101],
-    found: Found,
+    position: Position,
+    depth: u16,
+    place: usize,
     entries: &mut [u16],
     counts: &mut [u16],
 ) {
-    let place = found.place;
     if entries.len() <= place {
         return;
     }
-    if entries[place] != found.depth {
+    if entries[place] != depth {
         return;
     }
-    let position = position_at(ways, starts, found.rings, place);
     if !follows(filled, position.m, position.o) {
         return;
     }
     let board = position.board;
     let ply = Ply {
-        rings: found.rings,
-        depth: found.depth,
+        rings: position.rings,
+        depth,
         m: position.o,
         o: position.m,
     };
-    back(ways, filled, ply, &turned(&board), entries, counts);
+    back(filled, ply, &turned(&board), entries, counts);
 }
 
-// Every position of a depth.
+// Goes through all positions and takes back those of a depth.
 pub fn wave(
-    ways: &[usize; 2500],
     starts: &[usize; 101],
     filled: &[usize; 101],
     rings: u8,
@@ -229,14 +216,11 @@ pub fn wave(
     entries: &mut [u16],
     counts: &mut [u16],
 ) {
+    let mut position = first_position(starts, rings);
     let mut place = 0;
     while place < entries.len() {
-        let found = Found {
-            rings,
-            depth,
-            place,
-        };
-        visit(ways, starts, filled, found, entries, counts);
+        visit(filled, position, depth, place, entries, counts);
+        position = next_position(starts, position);
         place += 1;
     }
 }

@@ -1,10 +1,12 @@
 // The first pass: how many plies each position has, and which positions are ends or one ply before one.
 use second_order::NO_TABLE;
+use second_order::Position;
 use second_order::adjoin;
 use second_order::at;
+use second_order::first_position;
 use second_order::in_mill;
 use second_order::moved;
-use second_order::position_at;
+use second_order::next_position;
 use second_order::start_of;
 
 // What stands at a place until its depth is found, and stays there for a draw.
@@ -136,37 +138,35 @@ fn put(buffer: &mut [u16], place: usize, n: u16) {
 }
 
 fn open_at(
-    ways: &[usize; 2500],
-    starts: &[usize; 101],
     filled: &[usize; 101],
-    rings: u8,
+    position: Position,
     place: usize,
     entries: &mut [u16],
     counts: &mut [u16],
 ) {
-    let position = position_at(ways, starts, rings, place);
     if start_of(filled, position.m, position.o) == NO_TABLE {
         return;
     }
     let board = position.board;
-    let choices = removals(&board, rings, position.o);
-    let tally = tally_of(&board, rings, position.m, choices);
+    let choices = removals(&board, position.rings, position.o);
+    let tally = tally_of(&board, position.rings, position.m, choices);
     put(entries, place, first_entry(tally, position.o));
     put(counts, place, tally.plies);
 }
 
 // Writes at each place to be filled its first entry, and beside it how many plies the position has.
 pub fn open(
-    ways: &[usize; 2500],
     starts: &[usize; 101],
     filled: &[usize; 101],
     rings: u8,
     entries: &mut [u16],
     counts: &mut [u16],
 ) {
+    let mut position = first_position(starts, rings);
     let mut place = 0;
     while place < entries.len() {
-        open_at(ways, starts, filled, rings, place, entries, counts);
+        open_at(filled, position, place, entries, counts);
+        position = next_position(starts, position);
         place += 1;
     }
 }

@@ -7,11 +7,11 @@ use Rattle.second_passes.proofs.backwards.back.Statement.{statement}
 use Rattle.second_passes.proofs.backwards.back.Tie as tie
 
 abbrev Inv-loop : tie.InvT-loop
-Inv-loop ways filled ply board entries₀ counts₀ points to₀ entries counts to = (to ≤ points) × (length entries ≡ length entries₀)
+Inv-loop filled ply board entries₀ counts₀ points to₀ entries counts to = (to ≤ points) × (length entries ≡ length entries₀)
     × (length counts ≡ length counts₀)
 
 abbrev μ-loop : tie.MeasureT-loop
-μ-loop ways filled ply board entries₀ counts₀ points to₀ entries counts to = points - to
+μ-loop filled ply board entries₀ counts₀ points to₀ entries counts to = points - to
 
 cast-points : tie.Need-cast-points Inv-loop μ-loop
 cast-points c = search needs

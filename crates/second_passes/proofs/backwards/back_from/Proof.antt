@@ -7,11 +7,11 @@ use Rattle.second_passes.proofs.backwards.back_from.Statement.{statemen
 use Rattle.second_passes.proofs.backwards.back_from.Tie as tie
 
 abbrev Inv-loop : tie.InvT-loop
-Inv-loop ways filled ply board to entries₀ counts₀ points from₀ entries counts from = (from ≤ points) × (length entries ≡ length entries₀)
+Inv-loop filled ply board to entries₀ counts₀ points from₀ entries counts from = (from ≤ points) × (length entries ≡ length entries₀)
     × (length counts ≡ length counts₀)
 
 abbrev μ-loop : tie.MeasureT-loop
-μ-loop ways filled ply board to entries₀ counts₀ points from₀ entries counts from = points - from
+μ-loop filled ply board to entries₀ counts₀ points from₀ entries counts from = points - from
 
 at-requires : tie.Need-at-requires Inv-loop μ-loop
 at-requires c κs = search needs

@@ -7,11 +7,11 @@ use Rattle.second_passes.proofs.backwards.back_to.Statement.{statement}
 use Rattle.second_passes.proofs.backwards.back_to.Tie as tie
 
 abbrev Inv-loop : tie.InvT-loop
-Inv-loop ways filled last board entries₀ counts₀ before points taken₀ entries counts taken =
+Inv-loop filled last board entries₀ counts₀ before points taken₀ entries counts taken =
     (taken ≤ points) × (length entries ≡ length entries₀) × (length counts ≡ length counts₀)
 
 abbrev μ-loop : tie.MeasureT-loop
-μ-loop ways filled last board entries₀ counts₀ before points taken₀ entries counts taken = points - taken
+μ-loop filled last board entries₀ counts₀ before points taken₀ entries counts taken = points - taken
 
 goes-requires : tie.Need-goes-requires Inv-loop μ-loop
 goes-requires c κs = search needs

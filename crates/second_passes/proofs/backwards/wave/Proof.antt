@@ -7,17 +7,24 @@ use Rattle.second_passes.proofs.backwards.wave.Statement.{statement}
 use Rattle.second_passes.proofs.backwards.wave.Tie as tie
 
 abbrev Inv-loop : tie.InvT-loop
-Inv-loop ways starts filled rings depth entries₀ counts₀ place₀ entries counts place = (place ≤ length entries₀) × (length entries ≡ length entries₀)
-    × (length counts ≡ length counts₀)
+Inv-loop starts filled rings depth entries₀ counts₀ position₀ place₀ entries counts position place =
+    (place ≤ length entries₀) × (length entries ≡ length entries₀) × (length counts ≡ length counts₀)
 
 abbrev μ-loop : tie.MeasureT-loop
-μ-loop ways starts filled rings depth entries₀ counts₀ place₀ entries counts place = length entries₀ - place
+μ-loop starts filled rings depth entries₀ counts₀ position₀ place₀ entries counts position place =
+    length entries₀ - place
+
+first-position-requires : tie.Need-first-position-requires Inv-loop μ-loop
+first-position-requires c κs = search needs
 
 loop-holds : tie.Need-loop-holds Inv-loop μ-loop
 loop-holds c = search needs
 
 visit-requires : tie.Need-visit-requires Inv-loop μ-loop
 visit-requires c κs = search needs
+
+next-position-requires : tie.Need-next-position-requires Inv-loop μ-loop
+next-position-requires c κs = search needs
 
 add-place : tie.Need-add-place Inv-loop μ-loop
 add-place c = search needs
@@ -43,8 +50,10 @@ wave-spec =
     (tie.spec
     Inv-loop
     μ-loop
+    first-position-requires
     loop-holds
     visit-requires
+    next-position-requires
     add-place
     loop-less
     loop-again

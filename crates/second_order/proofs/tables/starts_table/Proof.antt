@@ -1,16 +1,16 @@
--- `second_order::order::starts_table` is safe and ends. Assumes nothing.
+-- `second_order::tables::starts_table` is safe and ends. Assumes nothing.
 use mathlib.Core.Path.{_≡_}
 use Prim.Native.Nat.{_-_, _≤_}
 use lib.ListN.{length}
 use borrow.Author.Needs.{needs}
-use Rattle.second_order.proofs.order.starts_table.Statement.{statement}
-use Rattle.second_order.proofs.order.starts_table.Tie as tie
+use Rattle.second_order.proofs.tables.starts_table.Statement.{statement}
+use Rattle.second_order.proofs.tables.starts_table.Tie as tie
 
 abbrev Inv-loop : tie.InvT-loop
-Inv-loop ways rings k starts₀ next₀ i₀ starts next i = (i ≤ 100) × (length starts ≡ 101)
+Inv-loop rings k starts₀ next₀ i₀ starts next i = (i ≤ 100) × (length starts ≡ 101)
 
 abbrev μ-loop : tie.MeasureT-loop
-μ-loop ways rings k starts₀ next₀ i₀ starts next i = 100 - i
+μ-loop rings k starts₀ next₀ i₀ starts next i = 100 - i
 
 loop-holds : tie.Need-loop-holds Inv-loop μ-loop
 loop-holds c = search needs
