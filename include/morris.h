@@ -8,8 +8,8 @@
  * length), and no two of them overlap. Nothing is kept after a call, and nothing is allocated; calls on different buffers may run at the same time.
  *
  * A board is 8 * rings bytes, point 0 first: 0 vacant, 1 the side to move (the mover), 2 the other side (the opponent). Point 8 * ring + place;
- * ring 0 is the outermost; places 0 to 7 clockwise, even places corners. A move number is 1024 * from + 32 * to + removed, with 31 for no removal.
- * A point set is a number whose binary digit p says whether point p is in it.
+ * ring 0 is the outermost; places 0 to 7 clockwise, even places corners; on three rings, points 0 to 7 are a7, d7, g7, g4, g1, d1, a1, a4. A move
+ * number is 1024 * from + 32 * to + removed, with 31 for no removal. A point set is a number whose binary digit p says whether point p is in it.
  *
  * Refusals:
  *    1  rings not 1, 2 or 3                        8  not a listed move

@@ -4,20 +4,20 @@ use mathlib.Core.Path.{_≡_, sym, ap, subst, _∙_}
 use mathlib.Core.Bool.{true}
 use mathlib.Core.List.{List, map, List·Memᴰ}
 use mathlib.Core.Logic.{_⊎_}
-use Prim.Native.Nat.{ℕ, zero, suc}
+use Prim.Native.Nat.{ℕ, zero, suc, _+_, _*_}
 use native.Mathlib.Omega.{arith}
 use Rattle.lists.specs.Lists.{isEmpty}
 use Rattle.lists.proofs.Members.{map-member, member-map}
 use Rattle.lists.proofs.Tests.{untrue, clash, any-member, empty-none}
 use Rattle.game.specs.Game.{Seed, live, ends, won, WonIn, LostIn, Entry}
 use Rattle.game.specs.Judgement.{isLost}
-use Rattle.game.specs.Play.{Wins}
+use Rattle.game.specs.Play.{Wins, Later}
 use Rattle.game.proofs.Least.{mono-le}
 use Rattle.game.proofs.Within.{won-zero, won-suc, lost-mono}
 use Rattle.game.proofs.Depths.{lost-depth, lost-even}
 use Rattle.game.proofs.Steps.{win-step}
 use Rattle.game.proofs.Entries.{lost-of, depth-entry, entry-lost}
-use Rattle.game.proofs.Play.{best-wins}
+use Rattle.game.proofs.Play.{best-wins, later-won}
 use Rattle.bestmove.specs.Best.{bestEntry, bestMove}
 use Rattle.bestmove.proofs.Choice.{best-listed, best-least}
 
@@ -60,5 +60,11 @@ module _ {Pos : Type 0} (next : Pos → List Pos) (seed : Pos → Seed) (S : Pos
         below = a .no-quicker (best p) (k .0);
       }
 
-  pub best-plays : (n : ℕ) (p : Pos) → S p → won next seed n p ≡ true → Wins next seed best n p
-  best-plays = best-wins next seed best S closed whole listed quick
+  -- so it wins, and a later position with the mover to move is won within the plies that are left
+  pub best-plays : (n : ℕ) (p : Pos) → S p → won next seed n p ≡ true
+      → Wins next seed best n p
+      × ((t : ℕ) (q : Pos) → Later next seed best t p q → (m : ℕ) × (m + 2 * t ≡ n) × S q × (won next seed m q ≡ true))
+  best-plays n p s w = (
+    best-wins next seed best S closed whole listed quick n p s w,
+    λ t q. later-won next seed best S closed whole listed quick n t p q s w,
+  )

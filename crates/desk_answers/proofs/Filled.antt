@@ -26,10 +26,9 @@ use Rattle.rank_calls.specs.RankCall.{rankCall}
 use Rattle.fill_calls.specs.Fills.{FillCall}
 use Rattle.entries.specs.BestMove.{bestListed}
 use Rattle.exact_fills.proofs.ExactEntries.{fill-accepted}
-use Rattle.play.proofs.PlayByBest.{best-answered}
 use Rattle.rank_calls.proofs.Answered.{rank-answered}
 use Rattle.frame_calls.proofs.Answered.{frame-given}
-use Rattle.entry_calls.proofs.Answered.{entry-true, entry-answered, blocked-answered}
+use Rattle.entry_calls.proofs.Answered.{entry-true, entry-answered, blocked-answered, best-answered}
 use Rattle.text.specs.declared.Field.the-variants.{Number, Absent}
 use Rattle.fields.specs.Fields.{largestCount, fieldOf, entryField, moveField}
 

@@ -22,10 +22,10 @@ Open seed t p = (seed p ≡ live) × (t p ≡ drawEntry)
 
 module _ {Pos : Type 0} (next : Pos → List Pos) (seed : Pos → Seed) where
   -- positions that hold together: no ply leads from one of them to a lost position outside, and from each some ply stays or leads to one never won
-  record Trap (U : Pos → Type 0) : Type 0 where
-    plies : (p : Pos) → U p → seed p ≡ live
-    no-loss : (p : Pos) → U p → (q : Pos) → List·Memᴰ q (next p) → U q ⊎ ((n : ℕ) → lost next seed n q ≡ false)
-    stay : (p : Pos) → U p → (q : Pos) × List·Memᴰ q (next p) × (U q ⊎ ((n : ℕ) → won next seed n q ≡ false))
+  pub record Trap (U : Pos → Type 0) : Type 0 where
+    pub plies : (p : Pos) → U p → seed p ≡ live
+    pub no-loss : (p : Pos) → U p → (q : Pos) → List·Memᴰ q (next p) → U q ⊎ ((n : ℕ) → lost next seed n q ≡ false)
+    pub stay : (p : Pos) → U p → (q : Pos) × List·Memᴰ q (next p) × (U q ⊎ ((n : ℕ) → won next seed n q ≡ false))
 
   module _ (U : Pos → Type 0) (t : Trap U) where
     held : (n : ℕ) (p : Pos) → U p → (won next seed n p ≡ false) × (lost next seed n p ≡ false)
@@ -41,7 +41,7 @@ module _ {Pos : Type 0} (next : Pos → List Pos) (seed : Pos → Seed) where
         outside q b r f (inr c) = f c
 
     -- all of them are drawn
-    trap-draw : (p : Pos) → U p → Draw next seed p
+    pub trap-draw : (p : Pos) → U p → Draw next seed p
     trap-draw p u n = let s = held n p u in neither-ended next seed n p (s .0) (s .1)
 
   module _ (S : Pos → Type 0) (t : Pos → ℕ) where

@@ -1,5 +1,5 @@
 -- The board's geometry, by the rule of document 01, "The board": point 8 × ring + place, ring 0 outermost, places 0 to 7 clockwise,
--- even places corners. Assumes nothing.
+-- even places corners; on three rings, points 0 to 7 are a7, d7, g7, g4, g1, d1, a1, a4. Assumes nothing.
 use mathlib.Core.Bool.{Bool, true, false, _&&_, _||_}
 use mathlib.Core.List.{List, [], _∷_, _++_, map}
 use Prim.Native.Nat.{ℕ, _+_, _*_, _/_, _%_}

@@ -4,14 +4,14 @@
 // contracts are those of `morris`, by the same definitions.
 ghost use mathlib.Core.Path.{_≡_};
 ghost use mathlib.Core.List.{[]};
-ghost use Rattle.answers.specs.Answers.{number as refusal, value, answer as answered};
+ghost use Rattle.answers.specs.Answers.{number as numberOf, value, answer as answered};
 ghost use Rattle.morris.specs.Calls.{rankCall, unrankCall, unrankTarget, movesCall, movesList, makeMoveCall, makeMoveTarget, representativeCall};
 ghost use Rattle.morris.specs.Calls.{FillCall, FillPairCall, lookupCall, bestMoveCall, readFrameCall, writeFrameCall, writeFrameTarget};
 
 // The rank of a board.
 #[no_mangle]
 pub extern "C" fn morris_rank(rings: u8, board: &[u8], rank: &mut u64) -> u8
-    ensures refusal { λ r. ⌜ r ≡ refusal (rankCall rings (now (board .entry))) ⌝ }
+    ensures refusal { λ r. ⌜ r ≡ numberOf (rankCall rings (now (board .entry))) ⌝ }
     ensures rank { λ _. ⌜ now (rank .exit) ≡ value (rankCall rings (now (board .entry))) 0 ⌝ }
 {
     numbers::ranked(morris::rank(rings, board), rank)
@@ -26,7 +26,7 @@ pub extern "C" fn morris_unrank(
     rank: u64,
     target: &mut [u8],
 ) -> u8
-    ensures refusal { λ r. ⌜ r ≡ refusal (unrankCall rings mover opponent rank (now (target .entry))) ⌝ }
+    ensures refusal { λ r. ⌜ r ≡ numberOf (unrankCall rings mover opponent rank (now (target .entry))) ⌝ }
     ensures target { λ _. ⌜ now (target .exit) ≡ unrankTarget rings mover opponent rank (now (target .entry)) ⌝ }
 {
     numbers::unranked(morris::unrank(rings, mover, opponent, rank, target))
@@ -35,7 +35,7 @@ pub extern "C" fn morris_unrank(
 // Lists a board's moves at the start of the list, and says how many.
 #[no_mangle]
 pub extern "C" fn morris_moves(rings: u8, board: &[u8], moves: &mut [u16], count: &mut usize) -> u8
-    ensures refusal { λ r. ⌜ r ≡ refusal (movesCall rings (now (board .entry)) (now (moves .entry))) ⌝ }
+    ensures refusal { λ r. ⌜ r ≡ numberOf (movesCall rings (now (board .entry)) (now (moves .entry))) ⌝ }
     ensures moves { λ _. ⌜ now (moves .exit) ≡ movesList rings (now (board .entry)) (now (moves .entry)) ⌝ }
     ensures count { λ _. ⌜ now (count .exit) ≡ value (movesCall rings (now (board .entry)) (now (moves .entry))) 0 ⌝ }
 {
@@ -45,7 +45,7 @@ pub extern "C" fn morris_moves(rings: u8, board: &[u8], moves: &mut [u16], count
 // Writes the board after a listed move over the target.
 #[no_mangle]
 pub extern "C" fn morris_make_move(rings: u8, board: &[u8], number: u16, target: &mut [u8]) -> u8
-    ensures refusal { λ r. ⌜ r ≡ refusal (makeMoveCall rings (now (board .entry)) number (now (target .entry))) ⌝ }
+    ensures refusal { λ r. ⌜ r ≡ numberOf (makeMoveCall rings (now (board .entry)) number (now (target .entry))) ⌝ }
     ensures target { λ _. ⌜ now (target .exit) ≡ makeMoveTarget rings (now (board .entry)) number (now (target .entry)) ⌝ }
 {
     numbers::made(morris::make_move(rings, board, number, target))
@@ -54,7 +54,7 @@ pub extern "C" fn morris_make_move(rings: u8, board: &[u8], number: u16, target:
 // The rank of the representative of a board's class.
 #[no_mangle]
 pub extern "C" fn morris_representative(rings: u8, board: &[u8], rank: &mut u64) -> u8
-    ensures refusal { λ r. ⌜ r ≡ refusal (representativeCall rings (now (board .entry))) ⌝ }
+    ensures refusal { λ r. ⌜ r ≡ numberOf (representativeCall rings (now (board .entry))) ⌝ }
     ensures rank { λ _. ⌜ now (rank .exit) ≡ value (representativeCall rings (now (board .entry))) 0 ⌝ }
 {
     numbers::represented(morris::representative(rings, board), rank)
@@ -92,7 +92,7 @@ pub extern "C" fn morris_lookup(
     tablebase: &[u16],
     entry: &mut u16,
 ) -> u8
-    ensures refusal { λ r. ⌜ r ≡ refusal (lookupCall rings (now (board .entry)) k (now (tablebase .entry))) ⌝ }
+    ensures refusal { λ r. ⌜ r ≡ numberOf (lookupCall rings (now (board .entry)) k (now (tablebase .entry))) ⌝ }
     ensures entry { λ _. ⌜ now (entry .exit) ≡ value (lookupCall rings (now (board .entry)) k (now (tablebase .entry))) 0 ⌝ }
 {
     numbers::looked(morris::lookup(rings, board, k, tablebase), entry)
@@ -108,7 +108,7 @@ pub extern "C" fn morris_best_move(
     number: &mut u16,
     entry: &mut u16,
 ) -> u8
-    ensures refusal { λ r. ⌜ r ≡ refusal (bestMoveCall rings (now (board .entry)) k (now (tablebase .entry))) ⌝ }
+    ensures refusal { λ r. ⌜ r ≡ numberOf (bestMoveCall rings (now (board .entry)) k (now (tablebase .entry))) ⌝ }
     ensures number { λ _. ⌜ now (number .exit) ≡ value (bestMoveCall rings (now (board .entry)) k (now (tablebase .entry))) 0 ⌝ }
     ensures entry { λ _. ⌜ now (entry .exit) ≡ value (bestMoveCall rings (now (board .entry)) k (now (tablebase .entry))) 1 ⌝ }
 {
@@ -123,7 +123,7 @@ pub extern "C" fn morris_read_frame(
     mover: &mut u32,
     opponent: &mut u32,
 ) -> u8
-    ensures refusal { λ r. ⌜ r ≡ refusal (readFrameCall (now (frame .entry))) ⌝ }
+    ensures refusal { λ r. ⌜ r ≡ numberOf (readFrameCall (now (frame .entry))) ⌝ }
     ensures rings { λ _. ⌜ now (rings .exit) ≡ value (readFrameCall (now (frame .entry))) 0 ⌝ }
     ensures mover { λ _. ⌜ now (mover .exit) ≡ value (readFrameCall (now (frame .entry))) 1 ⌝ }
     ensures opponent { λ _. ⌜ now (opponent .exit) ≡ value (readFrameCall (now (frame .entry))) 2 ⌝ }
@@ -139,7 +139,7 @@ pub extern "C" fn morris_write_frame(
     frame: &mut [u8],
     written: &mut usize,
 ) -> u8
-    ensures refusal { λ r. ⌜ r ≡ refusal (writeFrameCall rings (now (board .entry)) (now (frame .entry))) ⌝ }
+    ensures refusal { λ r. ⌜ r ≡ numberOf (writeFrameCall rings (now (board .entry)) (now (frame .entry))) ⌝ }
     ensures frame { λ _. ⌜ now (frame .exit) ≡ writeFrameTarget rings (now (board .entry)) (now (frame .entry)) ⌝ }
     ensures written { λ _. ⌜ now (written .exit) ≡ value (writeFrameCall rings (now (board .entry)) (now (frame .entry))) 0 ⌝ }
 {

@@ -1,6 +1,6 @@
 // An answer as numbers: document 01's number is returned, the values are given through `&mut`. "A refusal returns its number and zero elsewhere."
 ghost use mathlib.Core.Path.{_≡_};
-ghost use Rattle.answers.specs.Answers.{number as refusal, value};
+ghost use Rattle.answers.specs.Answers.{number as numberOf, value};
 ghost use Rattle.answers.specs.Answers.{ranked, unranked, listed, made, represented, solved, looked, chosen, frameRead, frameWritten};
 use answers::Chosen;
 use answers::Frame;
@@ -15,7 +15,7 @@ use answers::Unranked;
 
 // The rank of a board.
 pub fn ranked(answer: Ranked, rank: &mut u64) -> u8
-    ensures refusal { λ r. ⌜ r ≡ refusal (ranked answer) ⌝ }
+    ensures refusal { λ r. ⌜ r ≡ numberOf (ranked answer) ⌝ }
     ensures rank { λ _. ⌜ now (rank .exit) ≡ value (ranked answer) 0 ⌝ }
 {
     match answer {
@@ -32,7 +32,7 @@ pub fn ranked(answer: Ranked, rank: &mut u64) -> u8
 
 // A board written.
 pub fn unranked(answer: Unranked) -> u8
-    ensures { λ r. ⌜ r ≡ refusal (unranked answer) ⌝ }
+    ensures { λ r. ⌜ r ≡ numberOf (unranked answer) ⌝ }
 {
     match answer {
         Unranked::Written => 0,
@@ -42,7 +42,7 @@ pub fn unranked(answer: Unranked) -> u8
 
 // How many moves were listed.
 pub fn listed(answer: Listed, count: &mut usize) -> u8
-    ensures refusal { λ r. ⌜ r ≡ refusal (listed answer) ⌝ }
+    ensures refusal { λ r. ⌜ r ≡ numberOf (listed answer) ⌝ }
     ensures count { λ _. ⌜ now (count .exit) ≡ value (listed answer) 0 ⌝ }
 {
     match answer {
@@ -59,7 +59,7 @@ pub fn listed(answer: Listed, count: &mut usize) -> u8
 
 // The board after a move written.
 pub fn made(answer: Made) -> u8
-    ensures { λ r. ⌜ r ≡ refusal (made answer) ⌝ }
+    ensures { λ r. ⌜ r ≡ numberOf (made answer) ⌝ }
 {
     match answer {
         Made::Written => 0,
@@ -69,7 +69,7 @@ pub fn made(answer: Made) -> u8
 
 // The rank of a representative.
 pub fn represented(answer: Represented, rank: &mut u64) -> u8
-    ensures refusal { λ r. ⌜ r ≡ refusal (represented answer) ⌝ }
+    ensures refusal { λ r. ⌜ r ≡ numberOf (represented answer) ⌝ }
     ensures rank { λ _. ⌜ now (rank .exit) ≡ value (represented answer) 0 ⌝ }
 {
     match answer {
@@ -86,7 +86,7 @@ pub fn represented(answer: Represented, rank: &mut u64) -> u8
 
 // Tables filled.
 pub fn solved(answer: Solved) -> u8
-    ensures { λ r. ⌜ r ≡ refusal (solved answer) ⌝ }
+    ensures { λ r. ⌜ r ≡ numberOf (solved answer) ⌝ }
 {
     match answer {
         Solved::Filled => 0,
@@ -96,7 +96,7 @@ pub fn solved(answer: Solved) -> u8
 
 // An entry.
 pub fn looked(answer: Looked, entry: &mut u16) -> u8
-    ensures refusal { λ r. ⌜ r ≡ refusal (looked answer) ⌝ }
+    ensures refusal { λ r. ⌜ r ≡ numberOf (looked answer) ⌝ }
     ensures entry { λ _. ⌜ now (entry .exit) ≡ value (looked answer) 0 ⌝ }
 {
     match answer {
@@ -113,7 +113,7 @@ pub fn looked(answer: Looked, entry: &mut u16) -> u8
 
 // A move, and the entry of the successor that it leads to.
 pub fn chosen(answer: Chosen, number: &mut u16, entry: &mut u16) -> u8
-    ensures refusal { λ r. ⌜ r ≡ refusal (chosen answer) ⌝ }
+    ensures refusal { λ r. ⌜ r ≡ numberOf (chosen answer) ⌝ }
     ensures number { λ _. ⌜ now (number .exit) ≡ value (chosen answer) 0 ⌝ }
     ensures entry { λ _. ⌜ now (entry .exit) ≡ value (chosen answer) 1 ⌝ }
 {
@@ -136,7 +136,7 @@ pub fn chosen(answer: Chosen, number: &mut u16, entry: &mut u16) -> u8
 
 // The position of a frame.
 pub fn frame_read(answer: Frame, rings: &mut u8, mover: &mut u32, opponent: &mut u32) -> u8
-    ensures refusal { λ r. ⌜ r ≡ refusal (frameRead answer) ⌝ }
+    ensures refusal { λ r. ⌜ r ≡ numberOf (frameRead answer) ⌝ }
     ensures rings { λ _. ⌜ now (rings .exit) ≡ value (frameRead answer) 0 ⌝ }
     ensures mover { λ _. ⌜ now (mover .exit) ≡ value (frameRead answer) 1 ⌝ }
     ensures opponent { λ _. ⌜ now (opponent .exit) ≡ value (frameRead answer) 2 ⌝ }
@@ -163,7 +163,7 @@ pub fn frame_read(answer: Frame, rings: &mut u8, mover: &mut u32, opponent: &mut
 
 // How many characters were written.
 pub fn frame_written(answer: Framed, written: &mut usize) -> u8
-    ensures refusal { λ r. ⌜ r ≡ refusal (frameWritten answer) ⌝ }
+    ensures refusal { λ r. ⌜ r ≡ numberOf (frameWritten answer) ⌝ }
     ensures written { λ _. ⌜ now (written .exit) ≡ value (frameWritten answer) 0 ⌝ }
 {
     match answer {

@@ -53,8 +53,8 @@ before-row m x y (mine a b c) = absurd (omega arith)
 before-row m x y (yours a b c) = absurd (omega arith)
 
 -- after row k every table is done
-before-all : (rings k x y : ℕ) → AllTables rings k x y → DoneBefore (k + 1) 3 x y
-before-all rings k x y t =
+before-all : (rings k m x y : ℕ) → k < m → AllTables rings k x y → DoneBefore m 3 x y
+before-all rings k m x y l t =
     let w = listed-table (8 * rings) k x y t in
     rows (w .mover-low) (omega (arith, w .mover-high)) (w .opponent-low) (omega (arith, w .opponent-high))
 
@@ -121,8 +121,8 @@ module _ (rings k limit : ℕ) (tablebase : List ℕ) where
   pub done-row : (m : ℕ) → TrueOn rings k limit (DoneBefore m (m + 1)) tablebase → TrueOn rings k limit (DoneBefore (m + 1) 3) tablebase
   done-row m = true-fewer rings k limit (DoneBefore m (m + 1)) (DoneBefore (m + 1) 3) tablebase (before-row m)
 
-  pub done-all : TrueOn rings k limit (DoneBefore (k + 1) 3) tablebase → TrueOn rings k limit (AllTables rings k) tablebase
-  done-all = true-fewer rings k limit (DoneBefore (k + 1) 3) (AllTables rings k) tablebase (before-all rings k)
+  pub done-all : (m : ℕ) → k < m → TrueOn rings k limit (DoneBefore m 3) tablebase → TrueOn rings k limit (AllTables rings k) tablebase
+  done-all m l = true-fewer rings k limit (DoneBefore m 3) (AllTables rings k) tablebase (λ x y. before-all rings k m x y l)
 
 module _ (rings k : ℕ) where
   in-order-true : (m o : ℕ) (tablebase : List ℕ) → InOrder rings k m o tablebase → TrueOn rings k voidEntry (DoneBefore m o) tablebase
@@ -135,7 +135,7 @@ module _ (rings k : ℕ) where
 
   -- after the last row every entry of every table is true
   pub in-order-whole : (tablebase : List ℕ) → InOrder rings k (k + 1) 3 tablebase → TrueEntries rings k (AllTables rings k) tablebase
-  in-order-whole tablebase w = done-all rings k voidEntry tablebase (in-order-true (k + 1) 3 tablebase w) .entries
+  in-order-whole tablebase w = done-all rings k voidEntry tablebase (k + 1) (omega arith) (in-order-true (k + 1) 3 tablebase w) .entries
 
   -- and the tablebase is the one that a whole fill leaves
   pub in-order-one : (limit : ℕ) (a b b′ : List ℕ) → InOrder rings k (k + 1) 3 a → length a ≡ tablebaseLength (8 * rings) k

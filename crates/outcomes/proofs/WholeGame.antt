@@ -44,7 +44,7 @@ two-or-three b = go (ltb (count 1 b) 3) refl
 pub whole-cases : (b : List ℕ) → (wholeSeed b ≡ live) ⊎ (wholeSeed b ≡ ends 0)
 whole-cases b = ⊎-elim (λ h. inr (whole-two b h)) (λ h. inl (whole-live b h)) (two-or-three b)
 
-live-three : (b : List ℕ) → wholeSeed b ≡ live → 3 ≤ count 1 b
+pub live-three : (b : List ℕ) → wholeSeed b ≡ live → 3 ≤ count 1 b
 live-three b e = ⊎-elim (λ h. clash (sym (whole-two b h) ∙ e)) (λ h. h) (two-or-three b)
   where
     clash : ends 0 ≡ live → 3 ≤ count 1 b
@@ -78,6 +78,17 @@ board-reached rings k b s = record {
   opponent-high = s .is-table .opponent-high;
 }
 
+-- and one that it reaches, with three stones or more, is a board of it
+pub reached-board : (rings k : ℕ) (b : List ℕ) → Reached rings k b → 3 ≤ count 1 b → InTables rings k b
+reached-board rings k b w h =
+    let r : InRange k (count 1 b) (count 2 b) = record {
+      mover-low = h;
+      mover-high = w .mover-high;
+      opponent-low = w .opponent-low;
+      opponent-high = w .opponent-high;
+    } in
+    in-tables rings k b (w .values) (w .points) r
+
 -- a tablebase that holds the true entries
 module _ (rings k : ℕ) (tablebase : List ℕ) (entries : TrueEntries rings k (AllTables rings k) tablebase) where
   pub board-true : (b : List ℕ) → InTables rings k b → TrueEntry rings b (entryAt rings k tablebase b)
@@ -93,14 +104,7 @@ module _ (rings k : ℕ) (tablebase : List ℕ) (entries : TrueEntries rings k (
           (inl (omega arith, ends-depth (next rings) (λ c. wholeSeed c) b (whole-two b h)))
 
       three : 3 ≤ count 1 b → TrueEntry rings b (successorEntry rings k tablebase b)
-      three h =
-          let r : InRange k (count 1 b) (count 2 b) = record {
-            mover-low = h;
-            mover-high = w .mover-high;
-            opponent-low = w .opponent-low;
-            opponent-high = w .opponent-high;
-          } in
-          subst (λ (e : ℕ). TrueEntry rings b e) (sym (entry-three rings k tablebase b h)) (board-true b (in-tables rings k b (w .values) (w .points) r))
+      three h = subst (λ (e : ℕ). TrueEntry rings b e) (sym (entry-three rings k tablebase b h)) (board-true b (reached-board rings k b w h))
 
   -- no successor of a board of the tablebase is void
   pub successors-told : rings ≤ 3 → (b : List ℕ) → InTables rings k b → successorVoid rings k tablebase b ≡ false

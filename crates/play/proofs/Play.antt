@@ -17,13 +17,12 @@ use Rattle.rules.specs.Ply.{removable, listedMoves, removedOf, afterPly}
 use Rattle.rules.proofs.Bound.{moves-bound}
 use Rattle.rules.proofs.Listed.{removable-takes}
 use Rattle.rules.proofs.Leads.{MoverLeft, ply-leads}
-use Rattle.refusals.specs.Refusals.{refusalTable, pickedRows, refusal}
+use Rattle.refusals.specs.Refusals.{refusal}
 use Rattle.refusals.specs.Conditions.{boardPicks, targetPicks, movePicks, shortPicks}
 use Rattle.answers.specs.Answers.{accepted}
 use Rattle.move_calls.specs.MovesCall.{movesCall, movesList}
 use Rattle.move_calls.specs.MakeMoveCall.{makeMoveCall, makeMoveTarget}
-use Rattle.refusals.proofs.FirstRefusal.{passes}
-use Rattle.refusals.proofs.Conditions.{RightCounts, Accepted, accepted-board, rings-fine, length-fine, values-fine, counts-fine, short-decides}
+use Rattle.refusals.proofs.Conditions.{RightCounts, Accepted, accepted-board, board-passes, length-fine, short-decides}
 use Rattle.refusals.proofs.Conditions.{target-decides, move-decides}
 use Rattle.answers.proofs.Answering.{answer-accepted, target-written}
 
@@ -75,13 +74,13 @@ module _ (rings : ℕ) (b : List ℕ) (e : refusal (boardPicks rings b) ≡ 0) w
           opponent-high = omega (arith, l .opponent, c .mover-high);
           stones-fit = omega (arith, count-all (afterPly b move) (l .values), p);
         } in
-        sym (passes (pickedRows refusalTable (boardPicks rings (afterPly b move))) (
-          rings-fine rings (w .rings-low) (w .rings-high),
-          (
-            length-fine rings (length (afterPly b move)) p,
-            (values-fine (afterPly b move) (l .values), (counts-fine (8 * rings) (count 1 (afterPly b move)) (count 2 (afterPly b move)) counted, tt)),
-          ),
-        ))
+        sym (board-passes rings (afterPly b move) (record {
+          rings-low = w .rings-low;
+          rings-high = w .rings-high;
+          points = p;
+          values = l .values;
+          counted = counted;
+        }))
       where
         high : MoverLeft b (afterPly b move) (removedOf move) → count 2 b ≤ 9 → count 1 (afterPly b move) ≤ 9
         high (inl q) h = omega (arith, q .1)

@@ -104,6 +104,17 @@ accepted-board rings b e =
       counted = counts-right (8 * rings) (count 1 b) (count 2 b) (p .1 .1 .1 .0);
     }
 
+-- and a board that has this meets no condition
+pub board-passes : (rings : ℕ) (b : List ℕ) → Accepted rings b → 0 ≡ refusal (boardPicks rings b)
+board-passes rings b w =
+    passes (pickedRows refusalTable (boardPicks rings b)) (
+      rings-fine rings (w .rings-low) (w .rings-high),
+      (
+        length-fine rings (length b) (w .points),
+        (values-fine b (w .values), (counts-fine (8 * rings) (count 1 b) (count 2 b) (w .counted), tt)),
+      ),
+    )
+
 -- counts come after rings, and a target after the counts
 pub stones-rings : (rings m o : ℕ) → 0 ≡ refusal (stonesPicks rings m o) → rings ≤ 3
 stones-rings rings m o e = rings-right rings (passed (pickedRows refusalTable (stonesPicks rings m o)) refl (sym e) .0) .1

@@ -1,12 +1,13 @@
 -- The refusals of the tablebase calls: what an accepted K, tablebase and limit have, with a board or with the counts of a pair, and the last places
 -- of each call, which decide where the places before them are passed. Assumes nothing.
-use mathlib.Core.Path.{_≡_, refl, ap, _∙_}
-use mathlib.Core.Bool.{Bool, false, cond, _||_}
+use mathlib.Core.Path.{_≡_, refl, sym, ap, _∙_}
+use mathlib.Core.Bool.{Bool, false, cond, not, _||_}
 use mathlib.Core.List.{List, [], _∷_}
 use Prim.Native.Nat.{ℕ, _*_, _≤_}
+use native.Mathlib.Omega.{arith}
 use lib.Dec.{eqb, ltb}
 use lib.ListN.{length}
-use borrow.Author.Tests.{ltb-false, eqb-true, not-false}
+use borrow.Author.Tests.{ltb-false, le-ltb, eqb-true, eq-eqb, not-false}
 use Rattle.lists.proofs.Tests.{or-left, or-right}
 use Rattle.board.specs.Board.{count}
 use Rattle.layout.specs.Layout.{tablebaseLength}
@@ -16,8 +17,8 @@ use Rattle.outcomes.proofs.Boards.{InTables}
 use Rattle.refusals.specs.Refusals.{Picked, refusalTable, pickedRows, refusal}
 use Rattle.refusals.specs.Conditions.{countAbove, largestWrong, tablebaseWrong, largestLimit, limitWrong, moverBlocked}
 use Rattle.refusals.specs.Conditions.{boardPicks, stonesPicks, largestPicks, tablebasePicks, lookupPicks, bestMovePicks, limitPicks, fillPicks, tablesPicks, pairPicks}
-use Rattle.refusals.proofs.FirstRefusal.{passed, first-kept, first-after, both-passed, first-cons, one-more}
-use Rattle.refusals.proofs.Conditions.{RightCounts, Accepted, rings-right, counts-right, accepted-board}
+use Rattle.refusals.proofs.FirstRefusal.{passes, passed, first-kept, first-after, both-passed, first-cons, one-more}
+use Rattle.refusals.proofs.Conditions.{RightCounts, Accepted, rings-right, counts-right, accepted-board, board-passes}
 
 -- what a right K is, and that no count is above it
 pub record Largest (k : ℕ) (above : Bool) : Type 0 where
@@ -87,6 +88,32 @@ accepted-entry rings b k n e =
       tablebase = tablebase-right rings k above n (w .rings-low, w .rings-high) l (q .1 .0);
       in-tables = record { points = w .points; values = w .values; is-table = t };
     }
+
+-- and every board of the tables of an accepted tablebase is one
+pub entry-passes : (rings : ℕ) (b : List ℕ) (k n : ℕ) → AcceptedTablebase rings k n → InTables rings k b → refusal (tablebasePicks rings b k n) ≡ 0
+entry-passes rings b k n a s =
+    let m = count 1 b in
+    let o = count 2 b in
+    let t = s .is-table in
+    let board : Accepted rings b = record {
+      rings-low = a .rings-low;
+      rings-high = a .rings-high;
+      points = s .points;
+      values = s .values;
+      counted = record {
+        mover-low = t .mover-low;
+        mover-high = omega (arith, t .mover-high, a .largest-high);
+        opponent-low = t .opponent-low;
+        opponent-high = omega (arith, t .opponent-high, a .largest-high);
+        stones-fit = t .stones-fit;
+      };
+    } in
+    let above : countAbove k m o ≡ false = rw (le-ltb k m (t .mover-high), le-ltb k o (t .opponent-high)) in
+    let right : largestWrong k (countAbove k m o) ≡ false = rw (le-ltb k 3 (a .largest-low), le-ltb 9 k (a .largest-high), above) in
+    let exact : tablebaseWrong rings k n ≡ false = ap not (eq-eqb n (tablebaseLength (8 * rings) k) (a .exact)) in
+    first-after (pickedRows refusalTable (boardPicks rings b)) (pickedRows refusalTable (largestPicks rings k (countAbove k m o) n)) refl
+    (board-passes rings b board)
+    ∙ sym (passes (pickedRows refusalTable (largestPicks rings k (countAbove k m o) n)) (right, (exact, tt)))
 
 -- an accepted tablebase to fill
 pub record AcceptedFill (rings k limit n : ℕ) : Type 0 where

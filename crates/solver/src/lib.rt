@@ -112,14 +112,16 @@ pub fn solve_all(
 {
     let maps = all_maps(bounds.rings);
     let k = bounds.k;
+    let mut deep = false;
     let mut m = 3;
-    while m <= k {
-        if solve_row(tablebase, binomials, masks, images, bounds, maps, m) {
-            let end = tablebase.len();
-            parts::fill_table(tablebase, Part { start: 0, end: end }, VOID);
-            return true;
-        }
+    while (m <= k) & !deep {
+        deep = solve_row(tablebase, binomials, masks, images, bounds, maps, m);
         m += 1;
+    }
+    if deep {
+        let end = tablebase.len();
+        parts::fill_table(tablebase, Part { start: 0, end: end }, VOID);
+        return true;
     }
     false
 }

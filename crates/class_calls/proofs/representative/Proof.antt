@@ -25,13 +25,6 @@ returns c = answer-refused _ _ _ (c .if1 .taken) (c .before .of-board .ensures)
 binomial-table-requires : tie.Need-binomial-table-requires
 binomial-table-requires c κs = search needs
 
-representative-rank-requires : tie.Need-representative-rank-requires
-representative-rank-requires c κs =
-    let x = c .before .before in
-    let a = x .before .before .before .args in
-    let w = accepted-board (a .rings) (a .board .now) (sym (x .before .of-board .ensures) ∙ x .if1 .left) in
-    (c .before .binomial-table .ensures, (omega (arith, w .rings-high), omega (arith, w .points), w .values))
-
 returns-2 : tie.Need-returns-2
 unfolding representativeCall
 returns-2 c =
@@ -41,6 +34,13 @@ returns-2 c =
     ap (λ (r : ℕ). accepted (r ∷ [])) (c .representative-rank .ensures)
     ∙ answer-accepted (refusal (boardPicks (a .rings) b)) (Rank·rank (representative (a .rings) b) ∷ [])
     (sym (x .if1 .left) ∙ x .before .of-board .ensures)
+
+representative-rank-requires : tie.Need-representative-rank-requires
+representative-rank-requires c κs =
+    let x = c .before .before in
+    let a = x .before .before .before .args in
+    let w = accepted-board (a .rings) (a .board .now) (sym (x .before .of-board .ensures) ∙ x .if1 .left) in
+    (c .before .binomial-table .ensures, (omega (arith, w .rings-high), omega (arith, w .points), w .values))
 
 pub representative-spec : {M : Type 1} → statement M
 representative-spec =

@@ -57,6 +57,13 @@ count-requires c κs = tt
 cast-n : tie.Need-cast-n Inv-loop μ-loop
 cast-n c = omega (arith, found c .1)
 
+loop-again : tie.Need-loop-again Inv-loop μ-loop
+loop-again c =
+    let x = c .before .before .before .before in
+    counted-more _ (x .before .args .tos) (x .loop .n) (x .loop .left) (c .before .before .take-lowest .result .lowest) (c .before .before .take-lowest .result .rest)
+    (c .count .result)
+    (x .loop .inv) (c .before .before .take-lowest .ensures) (found c .0)
+
 add-n : tie.Need-add-n Inv-loop μ-loop
 add-n c =
     let x = c .before .before .before .before in
@@ -65,13 +72,6 @@ add-n c =
 
 loop-less : tie.Need-loop-less Inv-loop μ-loop
 loop-less c = omega (arith, c .before .before .take-lowest .ensures .less)
-
-loop-again : tie.Need-loop-again Inv-loop μ-loop
-loop-again c =
-    let x = c .before .before .before .before in
-    counted-more _ (x .before .args .tos) (x .loop .n) (x .loop .left) (c .before .before .take-lowest .result .lowest) (c .before .before .take-lowest .result .rest)
-    (c .count .result)
-    (x .loop .inv) (c .before .before .take-lowest .ensures) (found c .0)
 
 returns : tie.Need-returns Inv-loop μ-loop
 returns c =

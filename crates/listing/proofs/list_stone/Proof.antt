@@ -68,6 +68,21 @@ removals-requires c κs =
     let s = c .before .before .before .before in
     (s .pre .0, slides c)
 
+loop-again : tie.Need-loop-again Inv-loop μ-loop
+loop-again c =
+    let m = c .before .before in
+    let n = m .before .before in
+    let r = n .before in
+    let x = r .before .before .before in
+    let a = x .before .before .args in
+    let to : ℕ = r .before .take-lowest .result .lowest in
+    let e = m .list-removals .ensures in
+    written-more _ (a .list .now) (a .at) (a .tos) (x .loop .list) (x .loop .k) (x .loop .left) to (r .before .take-lowest .result .rest) _
+    (m .list-removals .result) (x .loop .inv) (r .before .take-lowest .ensures)
+    (e .0 ∙ ap (λ (n : ℕ). x .loop .k + n) (sym (length-map (elements 32 (r .removals .result)) (λ p. 1024 * a .from + 32 * to + p)) ∙ ap length (found r)))
+    (e .1 ∙ ap (λ (n : ℕ). sets (x .loop .list) (x .loop .k) (map (λ p. n + p) (elements 32 (r .removals .result)))) (n .slide-number .ensures)
+    ∙ ap (sets (x .loop .list) (x .loop .k)) (found r))
+
 slide-number-requires : tie.Need-slide-number-requires Inv-loop μ-loop
 slide-number-requires c κs =
     (low c, omega (arith, slides (c .before) .low, c .before .before .before .before .before .pre .0 .placed .small))
@@ -92,21 +107,6 @@ list-removals-requires c κs =
 
 loop-less : tie.Need-loop-less Inv-loop μ-loop
 loop-less c = omega (arith, c .before .before .before .before .before .before .take-lowest .ensures .less)
-
-loop-again : tie.Need-loop-again Inv-loop μ-loop
-loop-again c =
-    let m = c .before .before in
-    let n = m .before .before in
-    let r = n .before in
-    let x = r .before .before .before in
-    let a = x .before .before .args in
-    let to : ℕ = r .before .take-lowest .result .lowest in
-    let e = m .list-removals .ensures in
-    written-more _ (a .list .now) (a .at) (a .tos) (x .loop .list) (x .loop .k) (x .loop .left) to (r .before .take-lowest .result .rest) _
-    (m .list-removals .result) (x .loop .inv) (r .before .take-lowest .ensures)
-    (e .0 ∙ ap (λ (n : ℕ). x .loop .k + n) (sym (length-map (elements 32 (r .removals .result)) (λ p. 1024 * a .from + 32 * to + p)) ∙ ap length (found r)))
-    (e .1 ∙ ap (λ (n : ℕ). sets (x .loop .list) (x .loop .k) (map (λ p. n + p) (elements 32 (r .removals .result)))) (n .slide-number .ensures)
-    ∙ ap (sets (x .loop .list) (x .loop .k)) (found r))
 
 same-length : tie.Need-same-length Inv-loop μ-loop
 same-length c = c .before .loop .inv .writing .long

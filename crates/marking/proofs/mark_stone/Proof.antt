@@ -24,6 +24,21 @@ may-have-moved-requires c κs =
       bit-low 24 (a .position .opponent) (a .to) (opponent-small (a .rings) (a .position) p) (s .pre .1 .1),
     )
 
+returns : tie.Need-returns
+returns c =
+    let m = c .before .before in
+    let t = m .before .before in
+    let i = t .before in
+    let s = i .before .before .before in
+    let a = s .args in
+    let p = s .pre .0 .placed in
+    let b : List ℕ = boardOf (8 * a .rings) (a .position) in
+    m .mark-origins .ensures
+    ∙ ap (λ (l : List (List ℕ)). marked (places (a .back .part .start) l) (a .tablebase .now))
+    (ap (each (λ from. restored (a .back .capture) (a .rings) b (a .to) from))
+    (origins-given (a .rings) (a .position) p (a .to) (t .destinations .result) (t .destinations .ensures))
+    ∙ sym (stone-moved (a .rings) (a .position) p (a .back .capture) (a .to) (sym (i .before .may-have-moved .ensures) ∙ i .if1 .taken)))
+
 destinations-requires : tie.Need-destinations-requires
 destinations-requires c κs =
     let s = c .before .before .before in
@@ -43,21 +58,6 @@ mark-origins-requires c κs =
 
 same-length : tie.Need-same-length
 same-length c = search needs
-
-returns : tie.Need-returns
-returns c =
-    let m = c .before .before in
-    let t = m .before .before in
-    let i = t .before in
-    let s = i .before .before .before in
-    let a = s .args in
-    let p = s .pre .0 .placed in
-    let b : List ℕ = boardOf (8 * a .rings) (a .position) in
-    m .mark-origins .ensures
-    ∙ ap (λ (l : List (List ℕ)). marked (places (a .back .part .start) l) (a .tablebase .now))
-    (ap (each (λ from. restored (a .back .capture) (a .rings) b (a .to) from))
-    (origins-given (a .rings) (a .position) p (a .to) (t .destinations .result) (t .destinations .ensures))
-    ∙ sym (stone-moved (a .rings) (a .position) p (a .back .capture) (a .to) (sym (i .before .may-have-moved .ensures) ∙ i .if1 .taken)))
 
 returns-2 : tie.Need-returns-2
 returns-2 c =

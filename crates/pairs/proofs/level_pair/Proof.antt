@@ -10,6 +10,22 @@ use borrow.Author.Needs.{needs}
 use Rattle.pairs.proofs.level_pair.Statement.{statement}
 use Rattle.pairs.proofs.level_pair.Tie as tie
 
+returns : tie.Need-returns
+returns c =
+    let k = c .before .before .before .before .before .before .before .before in
+    let a = k .before .before .before .before .before .before .before .args in
+    c .before .before .level-table2 .ensures
+    ∙ level-twice (a .maps .rings) (a .tables .first) (a .tables .second) (a .tablebase .now) (k .level-table .last .0) (a .level) (a .maps .count)
+    (leastOfClass (a .maps .rings) (a .maps .count)) (k .level-table .ensures)
+    (c .before .before .before .before .if1 .taken)
+
+returns-2 : tie.Need-returns-2
+returns-2 c =
+    let k = c .before .before .before .before in
+    let a = k .before .before .before .before .before .before .before .args in
+    level-once (a .maps .rings) (a .tables .first) (a .tables .second) (a .tablebase .now) (k .level-table .last .0) (a .level) (a .maps .count) (leastOfClass (a .maps .rings) (a .maps .count))
+    (k .level-table .ensures) (c .if1 .left)
+
 level-table-requires : tie.Need-level-table-requires
 level-table-requires c κs =
     let s = c .before .before .before .before .before .before in
@@ -30,24 +46,8 @@ level-table-requires-2 c κs =
 same-length : tie.Need-same-length
 same-length c = search needs
 
-returns : tie.Need-returns
-returns c =
-    let k = c .before .before .before .before .before .before .before .before in
-    let a = k .before .before .before .before .before .before .before .args in
-    c .before .before .level-table2 .ensures
-    ∙ level-twice (a .maps .rings) (a .tables .first) (a .tables .second) (a .tablebase .now) (k .level-table .last .0) (a .level) (a .maps .count)
-    (leastOfClass (a .maps .rings) (a .maps .count)) (k .level-table .ensures)
-    (c .before .before .before .before .if1 .taken)
-
 same-length-2 : tie.Need-same-length-2
 same-length-2 c = search needs
-
-returns-2 : tie.Need-returns-2
-returns-2 c =
-    let k = c .before .before .before .before in
-    let a = k .before .before .before .before .before .before .before .args in
-    level-once (a .maps .rings) (a .tables .first) (a .tables .second) (a .tablebase .now) (k .level-table .last .0) (a .level) (a .maps .count) (leastOfClass (a .maps .rings) (a .maps .count))
-    (k .level-table .ensures) (c .if1 .left)
 
 pub level-pair-spec : {M : Type 1} → statement M
 level-pair-spec =

@@ -7,11 +7,11 @@ use borrow.Author.Needs.{needs}
 use Rattle.pairs.proofs.pair_decided.Statement.{statement}
 use Rattle.pairs.proofs.pair_decided.Tie as tie
 
-some-decided-requires : tie.Need-some-decided-requires
-some-decided-requires c κs = search needs
-
 returns : tie.Need-returns
 returns c = inl (subst (Found _ _) (c .if1 .taken) (c .before .some-decided .ensures))
+
+some-decided-requires : tie.Need-some-decided-requires
+some-decided-requires c κs = search needs
 
 some-decided-requires-2 : tie.Need-some-decided-requires-2
 some-decided-requires-2 c κs = search needs

@@ -10,6 +10,20 @@ use borrow.Author.Needs.{needs}
 use Rattle.pairs.proofs.sweep_pair.Statement.{statement}
 use Rattle.pairs.proofs.sweep_pair.Tie as tie
 
+returns : tie.Need-returns
+returns c =
+    let k = c .before .before .before .before .before .before .before .before in
+    let a = k .before .before .before .before .args in
+    c .before .before .sweep-blocked2 .ensures
+    ∙ blocked-twice (a .rings) (a .tables .first) (a .tables .second) (a .tablebase .now) (k .sweep-blocked .last .0) (k .sweep-blocked .ensures)
+    (c .before .before .before .before .if1 .taken)
+
+returns-2 : tie.Need-returns-2
+returns-2 c =
+    let k = c .before .before .before .before in
+    let a = k .before .before .before .before .args in
+    blocked-once (a .rings) (a .tables .first) (a .tables .second) (a .tablebase .now) (k .sweep-blocked .last .0) (k .sweep-blocked .ensures) (c .if1 .left)
+
 sweep-blocked-requires : tie.Need-sweep-blocked-requires
 sweep-blocked-requires c κs = search needs
 
@@ -24,22 +38,8 @@ sweep-blocked-requires-2 c κs =
 same-length : tie.Need-same-length
 same-length c = search needs
 
-returns : tie.Need-returns
-returns c =
-    let k = c .before .before .before .before .before .before .before .before in
-    let a = k .before .before .before .before .args in
-    c .before .before .sweep-blocked2 .ensures
-    ∙ blocked-twice (a .rings) (a .tables .first) (a .tables .second) (a .tablebase .now) (k .sweep-blocked .last .0) (k .sweep-blocked .ensures)
-    (c .before .before .before .before .if1 .taken)
-
 same-length-2 : tie.Need-same-length-2
 same-length-2 c = search needs
-
-returns-2 : tie.Need-returns-2
-returns-2 c =
-    let k = c .before .before .before .before in
-    let a = k .before .before .before .before .args in
-    blocked-once (a .rings) (a .tables .first) (a .tables .second) (a .tablebase .now) (k .sweep-blocked .last .0) (k .sweep-blocked .ensures) (c .if1 .left)
 
 pub sweep-pair-spec : {M : Type 1} → statement M
 sweep-pair-spec =

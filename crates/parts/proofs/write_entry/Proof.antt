@@ -7,6 +7,14 @@ use borrow.Author.Needs.{needs}
 use Rattle.parts.proofs.write_entry.Statement.{statement}
 use Rattle.parts.proofs.write_entry.Tie as tie
 
+returns : tie.Need-returns
+returns c =
+    let s = c .before .before .before .before .before in
+    let a = s .args in
+    let l = mid-len (a .part .start) (a .part .end) (a .tablebase .now) (s .pre .1) in
+    ap (putMid (a .part .start) (a .part .end - a .part .start) (a .tablebase .now)) (c .before .before .write .ensures)
+    ∙ set-mid-at (a .part .start) (a .part .end - a .part .start) (a .r) (a .tablebase .now) (a .v) (omega (arith, l, s .pre .0))
+
 mul-write : tie.Need-mul-write
 mul-write c = search needs
 
@@ -24,14 +32,6 @@ write-requires c κs = search needs
 
 same-length : tie.Need-same-length
 same-length c = search needs
-
-returns : tie.Need-returns
-returns c =
-    let s = c .before .before .before .before .before in
-    let a = s .args in
-    let l = mid-len (a .part .start) (a .part .end) (a .tablebase .now) (s .pre .1) in
-    ap (putMid (a .part .start) (a .part .end - a .part .start) (a .tablebase .now)) (c .before .before .write .ensures)
-    ∙ set-mid-at (a .part .start) (a .part .end - a .part .start) (a .r) (a .tablebase .now) (a .v) (omega (arith, l, s .pre .0))
 
 pub write-entry-spec : {M : Type 1} → statement M
 write-entry-spec =

@@ -21,17 +21,17 @@ count-requires c κs = search needs
 cast-stones : tie.Need-cast-stones
 cast-stones c = search needs
 
-entry-in-requires : tie.Need-entry-in-requires
-entry-in-requires c κs =
-    let s = c .before .before .before in
-    (s .pre .binomials, (s .pre .placed, same-within (s .pre .reads) _ (sym (stones (c .before)) ∙ c .if1 .taken)))
-
 returns : tie.Need-returns
 returns c =
     let t = c .before in
     let a = t .before .before .before .args in
     c .entry-in .ensures
     ∙ sym (probe-same (a .tablebase .now) (a .starts .same) (a .starts .fewer) (a .opponent) (boardOf (8 * a .rings) (a .position)) (sym (stones (t .before)) ∙ t .if1 .taken))
+
+entry-in-requires : tie.Need-entry-in-requires
+entry-in-requires c κs =
+    let s = c .before .before .before in
+    (s .pre .binomials, (s .pre .placed, same-within (s .pre .reads) _ (sym (stones (c .before)) ∙ c .if1 .taken)))
 
 returns-2 : tie.Need-returns-2
 returns-2 c =

@@ -18,6 +18,17 @@ use Rattle.answers.proofs.Answering.{turned-back, written}
 use Rattle.rank_calls.proofs.unrank.Statement.{statement}
 use Rattle.rank_calls.proofs.unrank.Tie as tie
 
+of-counts-requires : tie.Need-of-counts-requires
+of-counts-requires c κs = search needs
+
+returns : tie.Need-returns
+unfolding unrankCall unrankTarget
+returns c =
+    let a = c .before .before .before .args in
+    let e = counts-refused (a .rings) (a .mover) (a .opponent) (a .rank) (length (a .target .now)) (c .before .of-counts .result) (c .if1 .taken)
+    (c .before .of-counts .ensures) in
+    turned-back _ _ _ _ (c .before .of-counts .result) (c .if1 .taken) e
+
 -- past the first refusals, counts and target are accepted
 passed-counts : (c : tie.Else1)
     → 0 ≡ refusal (countsPicks (c .before .before .before .args .rings) (c .before .before .before .args .mover)
@@ -38,17 +49,6 @@ table-size c =
     let a = x .before .before .before .args in
     c .size .ensures ∙ ap (λ (n : ℕ). size n (a .mover) (a .opponent)) (counts-accepted x .points)
 
-of-counts-requires : tie.Need-of-counts-requires
-of-counts-requires c κs = search needs
-
-returns : tie.Need-returns
-unfolding unrankCall unrankTarget
-returns c =
-    let a = c .before .before .before .args in
-    let e = counts-refused (a .rings) (a .mover) (a .opponent) (a .rank) (length (a .target .now)) (c .before .of-counts .result) (c .if1 .taken)
-    (c .before .of-counts .ensures) in
-    turned-back _ _ _ _ (c .before .of-counts .result) (c .if1 .taken) e
-
 binomial-table-requires : tie.Need-binomial-table-requires
 binomial-table-requires c κs = search needs
 
@@ -65,21 +65,6 @@ returns-2 c =
     let h : size (8 * a .rings) (a .mover) (a .opponent) ≤ a .rank = omega (arith, table-size (c .before)) in
     turned-back _ _ _ _ 5 (λ e. absurd (omega arith))
     (rank-refused (a .rings) (a .mover) (a .opponent) (a .rank) (length (a .target .now)) (passed-counts x) h)
-
-unrank-requires : tie.Need-unrank-requires
-unrank-requires c κs =
-    let y = c .before in
-    let x = y .before .before .before .before in
-    let w = counts-accepted x in
-    (y .before .before .before .binomial-table .ensures, (omega (arith, w .points, w .rings-high), omega (arith, y .before .size .ensures)))
-
-write-board-requires : tie.Need-write-board-requires
-write-board-requires c κs =
-    let w = counts-accepted (c .before .before .before .before .before .before .before) in
-    omega (arith, w .points, w .rings-high)
-
-same-length : tie.Need-same-length
-same-length c = search needs
 
 returns-3 : tie.Need-returns-3
 unfolding unrankCall unrankTarget
@@ -98,6 +83,21 @@ returns-3 c =
     c .before .before .write-board .ensures ∙ ap₂ boardOf (w .points ∙ sym (v .points)) p ∙ board-position new (v .values) in
     written _ _ _ _ _ _
     (rank-passed (a .rings) (a .mover) (a .opponent) (a .rank) (length (a .target .now)) (passed-counts x) low) refl e
+
+unrank-requires : tie.Need-unrank-requires
+unrank-requires c κs =
+    let y = c .before in
+    let x = y .before .before .before .before in
+    let w = counts-accepted x in
+    (y .before .before .before .binomial-table .ensures, (omega (arith, w .points, w .rings-high), omega (arith, y .before .size .ensures)))
+
+write-board-requires : tie.Need-write-board-requires
+write-board-requires c κs =
+    let w = counts-accepted (c .before .before .before .before .before .before .before) in
+    omega (arith, w .points, w .rings-high)
+
+same-length : tie.Need-same-length
+same-length c = search needs
 
 pub unrank-spec : {M : Type 1} → statement M
 unrank-spec =

@@ -25,6 +25,37 @@ made : (c : tie.After-with)
     ≡ with (without (c .before .before .before .args .position .opponent) (c .before .before .before .args .to)) (c .before .before .before .args .from)
 made c = c .with .ensures ∙ ap (λ (s : ℕ). with s (c .before .before .before .args .from)) (c .before .without .ensures)
 
+returns : tie.Need-returns
+returns c =
+    let m = c .before .before in
+    let o = m .before .before in
+    let i = o .before .before in
+    let w = i .before in
+    let s = w .before .before .before in
+    let a = s .args in
+    let g = s .pre .1 in
+    m .mark-put .ensures
+    ∙ ap (λ (l : List (List ℕ)). marked (places (a .back .part .start) l) (a .tablebase .now))
+    (restored-given (a .rings) (a .position) (s .pre .0 .placed) (a .to) (a .from) (w .with .result) (g .0) (g .1) (made w) (o .without2 .result)
+    (o .without2 .ensures ∙ ap (λ (x : ℕ). without x (a .from)) (o .before .vacant .ensures))
+    ∙ ap (λ (b : Bool). restored b (a .rings) (boardOf (8 * a .rings) (a .position)) (a .to) (a .from)) (sym (i .if1 .taken)))
+
+returns-2 : tie.Need-returns-2
+returns-2 c =
+    let m = c .before .before in
+    let i = m .before .before in
+    let w = i .before in
+    let s = w .before .before .before in
+    let a = s .args in
+    let g = s .pre .1 in
+    let b : List ℕ = boardOf (8 * a .rings) (a .position) in
+    m .mark-position .ensures
+    ∙ sym (marked-one (a .back .part .start + rank (boardOf (8 * a .rings) record { mover = w .with .result; opponent = a .position .mover })) (a .tablebase .now))
+    ∙ ap (λ (l : List (List ℕ)). marked (places (a .back .part .start) l) (a .tablebase .now))
+    (ap (λ (d : List ℕ). d ∷ []) (before-board (a .rings) (a .position) (s .pre .0 .placed) (a .to) (a .from) (w .with .result) (g .0) (g .1) (made w))
+    ∙ sym (restored-none (a .rings) b (a .to) (a .from))
+    ∙ ap (λ (t : Bool). restored t (a .rings) b (a .to) (a .from)) (sym (i .if1 .left)))
+
 without-requires : tie.Need-without-requires
 without-requires c κs =
     let s = c .before in
@@ -93,39 +124,8 @@ mark-position-requires c κs =
 same-length : tie.Need-same-length
 same-length c = search needs
 
-returns : tie.Need-returns
-returns c =
-    let m = c .before .before in
-    let o = m .before .before in
-    let i = o .before .before in
-    let w = i .before in
-    let s = w .before .before .before in
-    let a = s .args in
-    let g = s .pre .1 in
-    m .mark-put .ensures
-    ∙ ap (λ (l : List (List ℕ)). marked (places (a .back .part .start) l) (a .tablebase .now))
-    (restored-given (a .rings) (a .position) (s .pre .0 .placed) (a .to) (a .from) (w .with .result) (g .0) (g .1) (made w) (o .without2 .result)
-    (o .without2 .ensures ∙ ap (λ (x : ℕ). without x (a .from)) (o .before .vacant .ensures))
-    ∙ ap (λ (b : Bool). restored b (a .rings) (boardOf (8 * a .rings) (a .position)) (a .to) (a .from)) (sym (i .if1 .taken)))
-
 same-length-2 : tie.Need-same-length-2
 same-length-2 c = search needs
-
-returns-2 : tie.Need-returns-2
-returns-2 c =
-    let m = c .before .before in
-    let i = m .before .before in
-    let w = i .before in
-    let s = w .before .before .before in
-    let a = s .args in
-    let g = s .pre .1 in
-    let b : List ℕ = boardOf (8 * a .rings) (a .position) in
-    m .mark-position .ensures
-    ∙ sym (marked-one (a .back .part .start + rank (boardOf (8 * a .rings) record { mover = w .with .result; opponent = a .position .mover })) (a .tablebase .now))
-    ∙ ap (λ (l : List (List ℕ)). marked (places (a .back .part .start) l) (a .tablebase .now))
-    (ap (λ (d : List ℕ). d ∷ []) (before-board (a .rings) (a .position) (s .pre .0 .placed) (a .to) (a .from) (w .with .result) (g .0) (g .1) (made w))
-    ∙ sym (restored-none (a .rings) b (a .to) (a .from))
-    ∙ ap (λ (t : Bool). restored t (a .rings) b (a .to) (a .from)) (sym (i .if1 .left)))
 
 pub mark-origin-spec : {M : Type 1} → statement M
 mark-origin-spec =

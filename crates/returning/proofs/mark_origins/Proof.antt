@@ -38,6 +38,18 @@ without-requires c κs =
       bit-low 24 (a .position .opponent) (a .to) (opponent-small (a .rings) (a .position) (s .pre .0 .placed)) (s .pre .1 .0),
     )
 
+returns-2 : tie.Need-returns-2
+returns-2 c =
+    let m = c .before .before in
+    let w = m .before .before in
+    let s = w .before .before .before .before .before in
+    let a = s .args in
+    let b : List ℕ = boardOf (8 * a .rings) (a .position) in
+    m .mark-put .ensures
+    ∙ ap (λ (l : List (List ℕ)). marked (places (a .back .part .start) l) (a .tablebase .now))
+    (lifted-given (a .rings) (a .position) (s .pre .0 .placed) (a .to) (w .without .result) (s .pre .1 .0) (w .without .ensures) (elements 32 (a .froms))
+    ∙ ap (λ (t : Bool). each (λ from. restored t (a .rings) b (a .to) from) (elements 32 (a .froms))) (sym (none (w .before))))
+
 mark-put-requires : tie.Need-mark-put-requires
 mark-put-requires c κs =
     let w = c .before in
@@ -62,18 +74,6 @@ returns c = search needs
 
 same-length-2 : tie.Need-same-length-2
 same-length-2 c = search needs
-
-returns-2 : tie.Need-returns-2
-returns-2 c =
-    let m = c .before .before in
-    let w = m .before .before in
-    let s = w .before .before .before .before .before in
-    let a = s .args in
-    let b : List ℕ = boardOf (8 * a .rings) (a .position) in
-    m .mark-put .ensures
-    ∙ ap (λ (l : List (List ℕ)). marked (places (a .back .part .start) l) (a .tablebase .now))
-    (lifted-given (a .rings) (a .position) (s .pre .0 .placed) (a .to) (w .without .result) (s .pre .1 .0) (w .without .ensures) (elements 32 (a .froms))
-    ∙ ap (λ (t : Bool). each (λ from. restored t (a .rings) b (a .to) from) (elements 32 (a .froms))) (sym (none (w .before))))
 
 pub mark-origins-spec : {M : Type 1} → statement M
 mark-origins-spec =

@@ -31,6 +31,20 @@ hits-requires c κs =
     let w = found s in
     (record { binomials = s .pre .0 .binomials; placed = w .placed; reads = w .reads }, (s .pre .0 .masks, s .pre .1 .0 .level-low))
 
+returns : tie.Need-returns
+returns c =
+    let k = c .before .before .before in
+    let t = k .before in
+    let s = t .before .before .before .before .before .before .before in
+    let a = s .args in
+    let w = found s in
+    c .before .before .write-images .ensures
+    ∙ judged-hit (a .maps .rings) (a .sweep .table) (a .sweep .same) (a .sweep .level) (a .maps .count) (a .at .rank) (a .tablebase .now)
+    (s .pre .1 .1 .marked)
+    (sym (hit-at (a .maps .rings) (a .sweep .table) (a .sweep .same) (a .at .rank) (a .tablebase .now) (length (a .tablebase .now))
+    (a .at .position) w (a .sweep .level))
+    ∙ sym (t .before .hits .ensures) ∙ t .if1 .taken) (boardOf (8 * a .maps .rings) (a .at .position)) (w .board-is)
+
 write-images-requires : tie.Need-write-images-requires
 write-images-requires c κs =
     let s = c .before .before .before .before .before .before .before .before in
@@ -49,20 +63,6 @@ write-images-requires c κs =
 
 same-length : tie.Need-same-length
 same-length c = search needs
-
-returns : tie.Need-returns
-returns c =
-    let k = c .before .before .before in
-    let t = k .before in
-    let s = t .before .before .before .before .before .before .before in
-    let a = s .args in
-    let w = found s in
-    c .before .before .write-images .ensures
-    ∙ judged-hit (a .maps .rings) (a .sweep .table) (a .sweep .same) (a .sweep .level) (a .maps .count) (a .at .rank) (a .tablebase .now)
-    (s .pre .1 .1 .marked)
-    (sym (hit-at (a .maps .rings) (a .sweep .table) (a .sweep .same) (a .at .rank) (a .tablebase .now) (length (a .tablebase .now))
-    (a .at .position) w (a .sweep .level))
-    ∙ sym (t .before .hits .ensures) ∙ t .if1 .taken) (boardOf (8 * a .maps .rings) (a .at .position)) (w .board-is)
 
 write-entry-requires : tie.Need-write-entry-requires
 write-entry-requires c κs = search needs

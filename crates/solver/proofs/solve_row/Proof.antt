@@ -46,8 +46,9 @@ solve-pair-requires c κs =
     let s = entered x in
     let a = s .args in
     let g = s .pre .1 in
-    let p = pair-in x (c .before .loop-test .taken) in
-    let d = done-lower (a .bounds .rings) (a .bounds .k) (a .m) (x .loop .o) p (c .before .loop-test .taken) (a .bounds .limit) (x .loop .tablebase)
+    let p = pair-in x (omega (arith, c .before .loop-test .taken)) in
+    let d = done-lower (a .bounds .rings) (a .bounds .k) (a .m) (x .loop .o) p (omega (arith, c .before .loop-test .taken)) (a .bounds .limit)
+    (x .loop .tablebase)
     (x .loop .tablebase) (x .loop .inv .3) in (
       s .pre .0,
       (
@@ -76,11 +77,10 @@ same-length c =
 returns : tie.Need-returns Inv-loop μ-loop
 returns c =
     let x = c .before .before .before .before .before .before in
-    let s = entered x in (
+    let s = entered x in
+    let h : x .loop .o ≤ s .args .m = omega (arith, c .before .before .before .before .before .loop-test .taken) in (
       same-length c,
-      deep-whole (s .args .bounds .rings) (s .args .bounds .k) (s .args .m) (x .loop .o) (pair-in x
-          (c .before .before .before .before .before .loop-test .taken))
-          (c .before .before .before .before .before .loop-test .taken) (s .args .bounds .limit)
+      deep-whole (s .args .bounds .rings) (s .args .bounds .k) (s .args .m) (x .loop .o) (pair-in x h) h (s .args .bounds .limit)
           (x .loop .tablebase) (c .before .before .before .solve-pair .last .0) (x .loop .inv .3)
           (subst (PairFill (s .args .bounds .rings) (s .args .bounds .k) (s .args .m) (x .loop .o) (s .args .bounds .limit) (x .loop .tablebase)
           (c .before .before .before .solve-pair .last .0)) (c .if1 .taken) (c .before .before .before .solve-pair .ensures)),
@@ -101,14 +101,13 @@ loop-again : tie.Need-loop-again Inv-loop μ-loop
 loop-again c =
     let x = c .before .before .before .before .before .before in
     let s = entered x in
+    let h : x .loop .o ≤ s .args .m = omega (arith, c .before .before .before .before .before .loop-test .taken) in
     let f = (subst (PairFill (s .args .bounds .rings) (s .args .bounds .k) (s .args .m) (x .loop .o) (s .args .bounds .limit) (x .loop .tablebase)
     (c .before .before .before .solve-pair .last .0)) (c .if1 .left) (c .before .before .before .solve-pair .ensures)) in (
       omega (arith, x .loop .inv .0),
       omega (arith, c .before .before .before .before .before .loop-test .taken),
       f .kept .same-length ∙ x .loop .inv .2,
-      done-pair (s .args .bounds .rings) (s .args .bounds .k) (s .args .m) (x .loop .o) (pair-in x
-          (c .before .before .before .before .before .loop-test .taken))
-          (c .before .before .before .before .before .loop-test .taken) (s .args .bounds .limit)
+      done-pair (s .args .bounds .rings) (s .args .bounds .k) (s .args .m) (x .loop .o) (pair-in x h) h (s .args .bounds .limit)
           (x .loop .tablebase) (c .before .before .before .solve-pair .last .0) (x .loop .inv .3) f,
     )
 

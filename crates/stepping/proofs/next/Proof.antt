@@ -34,18 +34,6 @@ small points position h w =
 small-at : (s : tie.Start) → Small (s .args .position)
 small-at s = small (s .args .points) (s .args .position) (s .pre .0 .0) (s .pre .0 .1)
 
-ends-requires : tie.Need-ends-requires
-ends-requires c κs = small-at (c .before) .opponent
-
-ends-requires-2 : tie.Need-ends-requires-2
-ends-requires-2 c κs = small-at (c .before .before) .both
-
-lowest-requires : tie.Need-lowest-requires
-lowest-requires c κs =
-    let s = c .before .before .before in
-    drops-any (s .args .points) (s .args .position) (s .pre .0 .1) (c .before .ends .result) (c .ends2 .result) (c .before .ends .ensures)
-    (c .ends2 .ensures) (s .pre .1)
-
 -- the descent that was found
 found : (c : tie.After-lowest)
     → Descent (c .before .before .before .before .args .points) (c .before .before .before .before .args .position) (c .lowest .result)
@@ -53,19 +41,6 @@ found c =
     let s = c .before .before .before .before in
     descent (s .args .points) (s .args .position) (s .pre .0 .1) (c .before .before .ends .result) (c .before .ends2 .result)
     (c .before .before .ends .ensures) (c .before .ends2 .ensures) (s .pre .1) (c .lowest .result) (c .lowest .ensures .0)
-
-with-requires : tie.Need-with-requires
-with-requires c κs = search needs
-
-lowest-requires-2 : tie.Need-lowest-requires-2
-lowest-requires-2 c κs e =
-    with-any (c .before .before .before .before .before .args .position .opponent) (c .before .lowest .result) (sym (c .with .ensures) ∙ e)
-
-lowest-requires-3 : tie.Need-lowest-requires-3
-lowest-requires-3 c κs =
-    let l = c .before .before in
-    let s = l .before .before .before .before in
-    stones-any (s .args .points) (s .args .position) (l .lowest .result) (found l)
 
 -- the stones below it
 below : (c : tie.After-lowest3)
@@ -77,18 +52,6 @@ below c =
     runs (s .args .points) (s .args .position) (l .lowest .result) (c .before .lowest2 .result) (c .lowest3 .result) (s .pre .0 .1) (found l)
     (s .pre .0 .0) (small-at s .both) (small-at s .opponent) (c .before .lowest2 .ensures .0 ∙ ap lowest (c .before .before .with .ensures))
     (c .lowest3 .ensures .0)
-
-sub-m : tie.Need-sub-m
-sub-m c = below c .mover-from
-
-sub-o : tie.Need-sub-o
-sub-o c = below c .opponent-from
-
-has-requires : tie.Need-has-requires
-has-requires c κs = search needs
-
-cast-was : tie.Need-cast-was
-cast-was c = search needs
 
 -- and what is to be put there
 step : (c : tie.After-has)
@@ -105,6 +68,46 @@ step c =
     stepped (s .args .points) (s .args .position) (l .lowest .result) (digit (c .has .result)) m (l .lowest .result - c .before .before .lowest2 .result)
     ((1 - digit (c .has .result)) * digit (ltb 0 m)) (s .pre .0 .1) (found l) (ap digit (c .has .ensures)) (sym (below (c .before) .mover))
     (sym (below (c .before) .opponent)) refl
+
+returns : tie.Need-returns
+returns c = ap₂ sides (c .before .side .ensures) (c .side2 .ensures) ∙ step (c .before .before) .is-next
+
+ends-requires : tie.Need-ends-requires
+ends-requires c κs = small-at (c .before) .opponent
+
+ends-requires-2 : tie.Need-ends-requires-2
+ends-requires-2 c κs = small-at (c .before .before) .both
+
+lowest-requires : tie.Need-lowest-requires
+lowest-requires c κs =
+    let s = c .before .before .before in
+    drops-any (s .args .points) (s .args .position) (s .pre .0 .1) (c .before .ends .result) (c .ends2 .result) (c .before .ends .ensures)
+    (c .ends2 .ensures) (s .pre .1)
+
+with-requires : tie.Need-with-requires
+with-requires c κs = search needs
+
+lowest-requires-2 : tie.Need-lowest-requires-2
+lowest-requires-2 c κs e =
+    with-any (c .before .before .before .before .before .args .position .opponent) (c .before .lowest .result) (sym (c .with .ensures) ∙ e)
+
+lowest-requires-3 : tie.Need-lowest-requires-3
+lowest-requires-3 c κs =
+    let l = c .before .before in
+    let s = l .before .before .before .before in
+    stones-any (s .args .points) (s .args .position) (l .lowest .result) (found l)
+
+sub-m : tie.Need-sub-m
+sub-m c = below c .mover-from
+
+sub-o : tie.Need-sub-o
+sub-o c = below c .opponent-from
+
+has-requires : tie.Need-has-requires
+has-requires c κs = search needs
+
+cast-was : tie.Need-cast-was
+cast-was c = search needs
 
 sub-one : tie.Need-sub-one
 sub-one c = omega (arith, digit-lt (c .has .result))
@@ -141,9 +144,6 @@ side-requires-2 c κs =
     let l = c .before .before .before .before .before in
     let s = l .before .before .before .before in
     (small-at s .opponent, omega (arith, found l .low, s .pre .0 .0), omega arith, omega (arith, step (c .before) .few))
-
-returns : tie.Need-returns
-returns c = ap₂ sides (c .before .side .ensures) (c .side2 .ensures) ∙ step (c .before .before) .is-next
 
 pub next-spec : {M : Type 1} → statement M
 next-spec =

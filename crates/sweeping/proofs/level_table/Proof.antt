@@ -33,6 +33,17 @@ fits-once c =
 sub-depth : tie.Need-sub-depth
 sub-depth c = search needs
 
+returns : tie.Need-returns
+returns c =
+    let j = c .before .before in
+    let d = j .before .before .before .before in
+    let k = d .before .before .before .before .before in
+    let a = k .before .before .before .before .before .before .before .args in
+    level-is (a .maps .rings) (a .sweep .table) (a .sweep .same) (a .sweep .level) (a .maps .count) (leastOfClass (a .maps .rings) (a .maps .count))
+    (a .tablebase .now) (k .mark-table .last .0)
+    (d .mark-table2 .last .0) (j .judge-marked .last .0)
+    (k .mark-table .ensures) (d .mark-table2 .ensures) (j .judge-marked .ensures)
+
 mark-table-requires : tie.Need-mark-table-requires
 mark-table-requires c κs =
     let s = c .before .before .before .before .before .before in
@@ -97,17 +108,6 @@ judge-marked-requires c κs =
 
 same-length : tie.Need-same-length
 same-length c = search needs
-
-returns : tie.Need-returns
-returns c =
-    let j = c .before .before in
-    let d = j .before .before .before .before in
-    let k = d .before .before .before .before .before in
-    let a = k .before .before .before .before .before .before .before .args in
-    level-is (a .maps .rings) (a .sweep .table) (a .sweep .same) (a .sweep .level) (a .maps .count) (leastOfClass (a .maps .rings) (a .maps .count))
-    (a .tablebase .now) (k .mark-table .last .0)
-    (d .mark-table2 .last .0) (j .judge-marked .last .0)
-    (k .mark-table .ensures) (d .mark-table2 .ensures) (j .judge-marked .ensures)
 
 pub level-table-spec : {M : Type 1} → statement M
 level-table-spec =

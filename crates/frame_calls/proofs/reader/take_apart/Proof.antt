@@ -15,16 +15,16 @@ use Rattle.answers.proofs.Answering.{answer-refused, answer-accepted}
 use Rattle.frame_calls.proofs.reader.take_apart.Statement.{statement}
 use Rattle.frame_calls.proofs.reader.take_apart.Tie as tie
 
+returns : tie.Need-returns
+unfolding takenApart
+returns c = answer-refused _ _ _ (c .if1 .taken) (c .before .of-frame .ensures)
+
 -- past the refusals, the frame is accepted
 frame-accepted : (c : tie.Else1) → AcceptedFrame (c .before .before .before .args .frame .now)
 frame-accepted c = accepted-frame _ (sym (c .before .of-frame .ensures) ∙ c .if1 .left)
 
 of-frame-requires : tie.Need-of-frame-requires
 of-frame-requires c κs = search needs
-
-returns : tie.Need-returns
-unfolding takenApart
-returns c = answer-refused _ _ _ (c .if1 .taken) (c .before .of-frame .ensures)
 
 rings-of-requires : tie.Need-rings-of-requires
 rings-of-requires c κs = frame-accepted c .characters

@@ -1,4 +1,4 @@
--- `fill_calls::fill_pair` meets its contract: turned back with the tablebase as it was, or what the solver leaves. Assumes nothing.
+-- `fill_calls::pair::fill_pair` meets its contract: turned back with the tablebase as it was, or what the solver leaves. Assumes nothing.
 use mathlib.Core.Path.{_≡_, sym, ap, _∙_}
 use mathlib.Core.Bool.{Bool, true, false, cond}
 use mathlib.Core.List.{[]}
@@ -14,8 +14,21 @@ use Rattle.fill_calls.specs.Fills.{FillPairCall}
 use Rattle.refusals.proofs.TablebaseConditions.{AcceptedPair, accepted-pair, pair-refused, pair-decides}
 use Rattle.fill_calls.proofs.Promised.{pair-turned, pair-kept}
 use borrow.Author.Needs.{needs}
-use Rattle.fill_calls.proofs.fill_pair.Statement.{statement}
-use Rattle.fill_calls.proofs.fill_pair.Tie as tie
+use Rattle.fill_calls.proofs.pair.fill_pair.Statement.{statement}
+use Rattle.fill_calls.proofs.pair.fill_pair.Tie as tie
+
+binomial-table-requires : tie.Need-binomial-table-requires
+binomial-table-requires c κs = search needs
+
+of-pair-requires : tie.Need-of-pair-requires
+of-pair-requires c κs = search needs
+
+returns : tie.Need-returns
+returns c =
+    let a = c .before .before .before .before .before .args in
+    let n = c .before .of-pair .result in
+    pair-turned (a .rings) (a .k) (a .limit) (a .tablebase .now) (a .mover) (a .opponent) n (c .if1 .taken)
+    (pair-refused (a .rings) (a .mover) (a .opponent) (a .k) (a .limit) (a .tablebase .now) n (c .if1 .taken) (c .before .of-pair .ensures))
 
 -- the entry of the call, seen from past its first refusals
 abbrev entered : tie.Else1 → tie.Start
@@ -63,19 +76,6 @@ kept c deep d =
     let free = c .before .before .before .before .before .before .before in
     pair-kept (a .rings) (a .k) (a .limit) (a .tablebase .now) (a .mover) (a .opponent) (c .solve-given .last .0) (c .solve-given .result) deep
     (sym (decided (solving c) false (sym (free .before .lower-void .ensures) ∙ free .if2 .left))) (c .solve-given .ensures) d
-
-binomial-table-requires : tie.Need-binomial-table-requires
-binomial-table-requires c κs = search needs
-
-of-pair-requires : tie.Need-of-pair-requires
-of-pair-requires c κs = search needs
-
-returns : tie.Need-returns
-returns c =
-    let a = c .before .before .before .before .before .args in
-    let n = c .before .of-pair .result in
-    pair-turned (a .rings) (a .k) (a .limit) (a .tablebase .now) (a .mover) (a .opponent) n (c .if1 .taken)
-    (pair-refused (a .rings) (a .mover) (a .opponent) (a .k) (a .limit) (a .tablebase .now) n (c .if1 .taken) (c .before .of-pair .ensures))
 
 lower-void-requires : tie.Need-lower-void-requires
 lower-void-requires c κs =

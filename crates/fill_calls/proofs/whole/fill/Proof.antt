@@ -1,4 +1,4 @@
--- `fill_calls::fill` meets its contract: turned back with the tablebase as it was, or what the solver leaves. Assumes nothing.
+-- `fill_calls::whole::fill` meets its contract: turned back with the tablebase as it was, or what the solver leaves. Assumes nothing.
 use mathlib.Core.Path.{_≡_, sym, _∙_}
 use mathlib.Core.Bool.{Bool, true, false, cond}
 use mathlib.Core.List.{[]}
@@ -11,8 +11,19 @@ use Rattle.fill_calls.specs.Fills.{FillCall}
 use Rattle.refusals.proofs.TablebaseConditions.{AcceptedFill, accepted-fill}
 use Rattle.fill_calls.proofs.Promised.{fill-refused, fill-kept}
 use borrow.Author.Needs.{needs}
-use Rattle.fill_calls.proofs.fill.Statement.{statement}
-use Rattle.fill_calls.proofs.fill.Tie as tie
+use Rattle.fill_calls.proofs.whole.fill.Statement.{statement}
+use Rattle.fill_calls.proofs.whole.fill.Tie as tie
+
+binomial-table-requires : tie.Need-binomial-table-requires
+binomial-table-requires c κs = search needs
+
+of-fill-requires : tie.Need-of-fill-requires
+of-fill-requires c κs = search needs
+
+returns : tie.Need-returns
+returns c =
+    let a = c .before .before .before .before .before .args in
+    fill-refused (a .rings) (a .k) (a .limit) (a .tablebase .now) (c .before .of-fill .result) (c .if1 .taken) (c .before .of-fill .ensures)
 
 -- the entry of the call, seen from past its first refusals
 abbrev entered : tie.Else1 → tie.Start
@@ -37,17 +48,6 @@ kept c deep d =
     let a = entered (solving c) .args in
     fill-kept (a .rings) (a .k) (a .limit) (a .tablebase .now) (c .solve-all .last .0) (c .solve-all .result) deep (none (solving c))
     (c .solve-all .ensures) d
-
-binomial-table-requires : tie.Need-binomial-table-requires
-binomial-table-requires c κs = search needs
-
-of-fill-requires : tie.Need-of-fill-requires
-of-fill-requires c κs = search needs
-
-returns : tie.Need-returns
-returns c =
-    let a = c .before .before .before .before .before .args in
-    fill-refused (a .rings) (a .k) (a .limit) (a .tablebase .now) (c .before .of-fill .result) (c .if1 .taken) (c .before .of-fill .ensures)
 
 masks-of-requires : tie.Need-masks-of-requires
 masks-of-requires c κs = known c .tablebase .rings-high
