@@ -1,6 +1,6 @@
 // Marks the open positions that have a ply to a given one. In that one the sides have changed names, so the side that moved is the opponent.
 ghost use mathlib.Core.Path.{_≡_};
-ghost use Prim.Native.Nat.{_-_, _*_, _<_};
+ghost use Prim.Native.Nat.{_*_, _<_};
 ghost use lib.ListN.{length};
 ghost use Rattle.sets.specs.Sets.{bit};
 ghost use Rattle.board.specs.Board.{boardOf};

@@ -1,7 +1,7 @@
 // Marks the open positions before a ply of one stone to a given position, by the points that it may have come from. In that position the sides have
 // changed names, so the stone is the opponent's.
 ghost use mathlib.Core.Path.{_≡_};
-ghost use Prim.Native.Nat.{_*_, _<_};
+ghost use Prim.Native.Nat.{_*_};
 ghost use lib.ListN.{length};
 ghost use Rattle.lists.specs.Lists.{each};
 ghost use Rattle.sets.specs.Sets.{bit, elements};

@@ -1,7 +1,7 @@
 -- The tables that plies from a table lead to, and its room for the positions before theirs. Assumes nothing.
 use mathlib.Core.Path.{refl}
 use mathlib.Core.Bool.{Bool, true, false}
-use Prim.Native.Nat.{ℕ, _+_, _-_, _*_, _≤_}
+use Prim.Native.Nat.{ℕ, _+_, _*_, _≤_}
 use native.Mathlib.Omega.{arith}
 use Rattle.board.specs.Board.{digit}
 use Rattle.tables.specs.declared.Table.{Table}

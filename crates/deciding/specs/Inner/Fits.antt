@@ -1,6 +1,6 @@
 -- A table, and the tables of its positions' successors, within a tablebase. Assumes nothing.
 use mathlib.Core.Path.{_≡_}
-use Prim.Native.Nat.{ℕ, _+_, _-_, _*_, _≤_}
+use Prim.Native.Nat.{ℕ, _+_, _*_, _≤_}
 use Rattle.sizes.specs.Size.{size}
 use Rattle.tables.specs.declared.Table.{Table}
 use Rattle.probing.specs.Inner.Probes.{Reads}
