@@ -1,7 +1,10 @@
-// The table of calls: boards, ranks and moves of the same positions, by the library and by the plain solver's board.
+// The table of calls: boards, ranks, moves, entries and best moves of the same positions, by the library and by the plain
+// solver's board.
 #include "board.hpp"
 #include "measure.hpp"
 #include "morris.h"
+#include "solver.hpp"
+#include "tablebase.hpp"
 
 #include <algorithm>
 #include <array>
@@ -36,7 +39,7 @@ void write_board(plain::Position at, uint8_t *board, int points) {
     for (int p = 0; p < points; p++) board[p] = (at.mover >> p & 1) + 2 * (at.opponent >> p & 1);
 }
 
-// Both sides of a comparison: the boards, ranks and moves that each found for the same ranks. Both take and give bytes.
+// Both sides of a comparison: what each found for the same ranks. Both take and give bytes.
 class Calls {
   public:
     Calls(int rings, int mover, int opponent)
@@ -48,16 +51,18 @@ class Calls {
         }
     }
 
-    // Three rows of the table of calls; returns how many results differ.
+    // A row for each call, those on a tablebase where it is not too large; returns how many results differ.
     size_t compare() {
         size_t differ = compare_unrank();
         differ += compare_rank();
         differ += compare_moves();
+        int k = std::max(mover_, opponent_);
+        if (board_.length(k) <= ENTRIES_MAX) differ += compare_entries(k);
         return differ;
     }
 
   private:
-    static constexpr size_t CALLS = 100000;
+    static constexpr size_t CALLS = 100000, ENTRIES_MAX = 10000000;
     using Boards = std::vector<uint8_t>;
     using Ranks = std::vector<uint64_t>;
 
@@ -101,6 +106,41 @@ class Calls {
             differ += !std::equal(list, list + length, other, other + other_length);
         }
         row("moves", library_time, plain_time, differ);
+        return differ;
+    }
+
+    // Two rows, over a tablebase that the plain solver fills.
+    size_t compare_entries(int k) {
+        std::vector<uint16_t> entries(board_.length(k));
+        plain::fill(rings_, k, entries.data());
+        plain::Tablebase tablebase(board_, k, entries.data());
+        return compare_lookup(k, entries, tablebase) + compare_best_move(k, entries, tablebase);
+    }
+
+    size_t compare_lookup(int k, const std::vector<uint16_t> &entries, const plain::Tablebase &tablebase) {
+        std::vector<uint16_t> found(CALLS), other(CALLS);
+        double library = nanoseconds(CALLS, [&](size_t i) {
+            morris_lookup(rings_, &boards_[i * points_], points_, k, entries.data(), entries.size(), &other[i]);
+        });
+        double plain =
+            nanoseconds(CALLS, [&](size_t i) { found[i] = tablebase.entry(position_of(&boards_[i * points_], points_)); });
+        size_t differ = 0;
+        for (size_t i = 0; i < CALLS; i++) differ += found[i] != other[i];
+        row("lookup", library, plain, differ);
+        return differ;
+    }
+
+    size_t compare_best_move(int k, const std::vector<uint16_t> &entries, const plain::Tablebase &tablebase) {
+        std::vector<plain::BestMove> found(CALLS), other(CALLS);
+        double library = nanoseconds(CALLS, [&](size_t i) {
+            morris_best_move(rings_, &boards_[i * points_], points_, k, entries.data(), entries.size(), &other[i].number,
+                             &other[i].entry);
+        });
+        double plain =
+            nanoseconds(CALLS, [&](size_t i) { found[i] = tablebase.best_move(position_of(&boards_[i * points_], points_)); });
+        size_t differ = 0;
+        for (size_t i = 0; i < CALLS; i++) differ += found[i] != other[i];
+        row("best move", library, plain, differ);
         return differ;
     }
 
