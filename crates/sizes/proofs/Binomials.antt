@@ -1,10 +1,8 @@
 -- Laws of binomials: Pascal's rule, bounds, and the factorials. Assumes nothing.
-use mathlib.Core.Path.{_≡_, refl, sym, ap, ap₂, _∙_}
-use mathlib.Core.List.{List}
-use Prim.Native.Nat.{ℕ, zero, suc, _+_, _-_, _*_, _/_, _%_, _^_, _≤_, _<_}
-use native.Mathlib.Nat.{add-zero, zero-add, add-suc, suc-add, pow-suc, le-trans}
+use mathlib.Core.Path.{_≡_, refl, sym, ap, _∙_}
+use Prim.Native.Nat.{ℕ, zero, suc, _+_, _-_, _*_, _/_, _^_, _≤_, _<_}
+use native.Mathlib.Nat.{add-zero, zero-add, add-suc, suc-add, pow-suc, le-trans, mul-pos, mul-div-cancel}
 use native.Mathlib.Omega.{arith}
-use lib.ListN.{getD}
 use lib.Pow.{pow-mono, pow-pos}
 use Rattle.sizes.specs.Size.{factorial}
 use Rattle.sizes.specs.Inner.Binomial.{binomial}
@@ -60,30 +58,13 @@ binomial-factorial (suc k) (suc j) =
     rw (p, pascal (suc (k + j)) k)
     (step (binomial (suc (k + j)) k) (binomial (suc (k + j)) (suc k)) k j (factorial k) (factorial j) x y)
 
-rule : (n k : ℕ) → 0 < n → 0 < k → binomial n k ≡ binomial (n - 1) (k - 1) + binomial (n - 1) k
-rule zero k p q = absurd (omega arith)
-rule (suc n) zero p q = absurd (omega arith)
-rule (suc n) (suc k) p q =
-    let a : suc n - 1 ≡ n = omega arith in
-    let b : suc k - 1 ≡ k = omega arith in
-    rw (a, b) (pascal n k)
+pub factorial-pos : (n : ℕ) → 0 < factorial n
+factorial-pos zero = omega arith
+factorial-pos (suc n) = omega (arith, factorial-pos n)
 
--- entry i of the rows of 25 from those before it, in column 0 and in the others
-pub entry-sum : (t : List ℕ) (i : ℕ) → ((j : ℕ) → j < i → getD t j 0 ≡ binomial (j / 25) (j % 25)) → 26 ≤ i → i < 625
-    → getD t (i - 26) 0 + getD t (i - 25) 0 ≡ binomial (i / 25) (i % 25)
-entry-sum t i known h l = go (i % 25) refl
-  where
-    go : (k : ℕ) → i % 25 ≡ k → getD t (i - 26) 0 + getD t (i - 25) 0 ≡ binomial (i / 25) (i % 25)
-    go zero e =
-        let a : (i - 26) % 25 ≡ 24 = omega arith in
-        let b : (i - 25) % 25 ≡ 0 = omega arith in
-        ap₂ _+_ (known (i - 26) (omega arith) ∙ ap (binomial ((i - 26) / 25)) a ∙ binomial-over ((i - 26) / 25) 24 (omega arith))
-        (known (i - 25) (omega arith) ∙ ap (binomial ((i - 25) / 25)) b ∙ binomial-zero ((i - 25) / 25))
-        ∙ sym (ap (binomial (i / 25)) e ∙ binomial-zero (i / 25))
-    go (suc k) e =
-        let a : (i - 26) / 25 ≡ i / 25 - 1 = omega arith in
-        let b : (i - 26) % 25 ≡ i % 25 - 1 = omega arith in
-        let c : (i - 25) / 25 ≡ i / 25 - 1 = omega arith in
-        let d : (i - 25) % 25 ≡ i % 25 = omega arith in
-        ap₂ _+_ (known (i - 26) (omega arith) ∙ ap₂ binomial a b) (known (i - 25) (omega arith) ∙ ap₂ binomial c d)
-        ∙ sym (rule (i / 25) (i % 25) (omega arith) (omega arith))
+pub binomial-quotient : (n k : ℕ) → k ≤ n → binomial n k ≡ factorial n / (factorial k * factorial (n - k))
+binomial-quotient n k h =
+    let p : k + (n - k) ≡ n = omega arith in
+    sym
+    (ap (λ (t : ℕ). t / (factorial k * factorial (n - k))) (sym (rw p at (binomial-factorial k (n - k))))
+    ∙ mul-div-cancel (binomial n k) (mul-pos (factorial-pos k) (factorial-pos (n - k))))

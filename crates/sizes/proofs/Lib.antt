@@ -1,3 +1,4 @@
 pub mod Binomials
 pub mod Multinomials
 pub mod Products
+pub mod Rows

@@ -8,15 +8,11 @@ use lib.Dec.{leb, ltb}
 use borrow.Author.Tests.{leb-true, leb-false, lt-leb, ltb-true, ltb-false}
 use Rattle.sizes.specs.Inner.Binomial.{binomial}
 use Rattle.sizes.specs.Size.{factorial, size, sizeWithOne}
-use Rattle.sizes.proofs.Binomials.{pascal, binomial-zero, binomial-over, binomial-small, binomial-factorial}
+use Rattle.sizes.proofs.Binomials.{pascal, binomial-zero, binomial-over, binomial-small, binomial-factorial, factorial-pos}
 
 -- the ways to choose m of n points, and then o of those left
 abbrev pub ways : ℕ → ℕ → ℕ → ℕ
 ways n m o = binomial n m * binomial (n - m) o
-
-factorial-pos : (n : ℕ) → 0 < factorial n
-factorial-pos zero = omega arith
-factorial-pos (suc n) = omega (arith, factorial-pos n)
 
 -- a product of three factors, regrouped
 regroup : (u v f g k c n : ℕ) → u * (f * c) ≡ n → v * (g * k) ≡ c → n ≡ u * v * (f * g * k)

@@ -1,34 +1,18 @@
-// Sizes from a table of binomials. A call makes the table once and lends it down; its rule goes with it as what the borrower requires.
+// Sizes from a constant table of binomials. A call takes the table as a value once and lends it down; its rule goes with it as what the borrower
+// requires.
+mod table;
+
 ghost use mathlib.Core.Path.{_≡_};
-ghost use Prim.Native.Nat.{ℕ, _/_, _%_, _≤_, _<_};
-ghost use lib.ListN.{getD};
+ghost use Prim.Native.Nat.{_≤_, _<_};
 ghost use Rattle.sizes.specs.Size.{size};
 ghost use Rattle.sizes.specs.Inner.Binomial.{binomial, BinomialTable};
+use table::BINOMIALS;
 
-// Entry i of the rows of 25, by Pascal's rule from the entries before it. In column 0 the entry before the one above is the last of its row, 0 in
-// every row but the last, so that the rule needs no case.
-fn pascal(binomials: &[u32; 625], i: usize) -> u32
-    requires { ⌜ (26 ≤ i) × (i < 625) ⌝ }
-    requires { ⌜ ((j : ℕ) → j < i → getD (now binomials) j 0 ≡ binomial (j / 25) (j % 25)) ⌝ }
-    ensures { λ r. ⌜ r ≡ binomial (i / 25) (i % 25) ⌝ }
-{
-    binomials[i - 26] + binomials[i - 25]
-}
-
-// Binomials of row n and column k from 0 to 24.
+// The binomials of row n and column k from 0 to 24, as a value to lend.
 pub fn binomial_table() -> [u32; 625]
     ensures { λ r. ⌜ BinomialTable r ⌝ }
 {
-    let mut binomials = [0u32; 625];
-    binomials[0] = 1;
-    binomials[25] = 1;
-    let mut i = 26;
-    while i < 625 {
-        let entry = pascal(&binomials, i);
-        binomials[i] = entry;
-        i += 1;
-    }
-    binomials
+    BINOMIALS
 }
 
 // A table entry as a number of boards.

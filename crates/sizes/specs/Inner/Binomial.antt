@@ -1,4 +1,4 @@
--- Binomials by Pascal's rule, and the rule of the table that is made once and lent. Assumes nothing.
+-- Binomials by Pascal's rule, and the rule of the table that a call takes once and lends. Assumes nothing.
 use mathlib.Core.Path.{_≡_}
 use mathlib.Core.List.{List}
 use Prim.Native.Nat.{ℕ, zero, suc, _+_, _*_, _<_}
