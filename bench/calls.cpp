@@ -114,33 +114,32 @@ class Calls {
         std::vector<uint16_t> entries(board_.length(k));
         plain::fill(rings_, k, entries.data());
         plain::Tablebase tablebase(board_, k, entries.data());
-        return compare_lookup(k, entries, tablebase) + compare_best_move(k, entries, tablebase);
-    }
-
-    size_t compare_lookup(int k, const std::vector<uint16_t> &entries, const plain::Tablebase &tablebase) {
-        std::vector<uint16_t> found(CALLS), other(CALLS);
-        double library = nanoseconds(CALLS, [&](size_t i) {
-            morris_lookup(rings_, &boards_[i * points_], points_, k, entries.data(), entries.size(), &other[i]);
-        });
-        double plain =
-            nanoseconds(CALLS, [&](size_t i) { found[i] = tablebase.entry(position_of(&boards_[i * points_], points_)); });
-        size_t differ = 0;
-        for (size_t i = 0; i < CALLS; i++) differ += found[i] != other[i];
-        row("lookup", library, plain, differ);
+        auto lookup = [&](size_t i) {
+            uint16_t entry;
+            morris_lookup(rings_, &boards_[i * points_], points_, k, entries.data(), entries.size(), &entry);
+            return entry;
+        };
+        auto best_move = [&](size_t i) {
+            plain::BestMove best;
+            morris_best_move(rings_, &boards_[i * points_], points_, k, entries.data(), entries.size(), &best.number,
+                             &best.entry);
+            return best;
+        };
+        auto at = [&](size_t i) { return position_of(&boards_[i * points_], points_); };
+        size_t differ = compare_read<uint16_t>("lookup", lookup, [&](size_t i) { return tablebase.entry(at(i)); });
+        differ += compare_read<plain::BestMove>("best move", best_move, [&](size_t i) { return tablebase.best_move(at(i)); });
         return differ;
     }
 
-    size_t compare_best_move(int k, const std::vector<uint16_t> &entries, const plain::Tablebase &tablebase) {
-        std::vector<plain::BestMove> found(CALLS), other(CALLS);
-        double library = nanoseconds(CALLS, [&](size_t i) {
-            morris_best_move(rings_, &boards_[i * points_], points_, k, entries.data(), entries.size(), &other[i].number,
-                             &other[i].entry);
-        });
-        double plain =
-            nanoseconds(CALLS, [&](size_t i) { found[i] = tablebase.best_move(position_of(&boards_[i * points_], points_)); });
+    // A row for what each side reads of the same positions.
+    template <class Read, class Library, class Plain>
+    size_t compare_read(const char *call, const Library &library, const Plain &plain) const {
+        std::vector<Read> found(CALLS), other(CALLS);
+        double library_time = nanoseconds(CALLS, [&](size_t i) { other[i] = library(i); });
+        double plain_time = nanoseconds(CALLS, [&](size_t i) { found[i] = plain(i); });
         size_t differ = 0;
         for (size_t i = 0; i < CALLS; i++) differ += found[i] != other[i];
-        row("best move", library, plain, differ);
+        row(call, library_time, plain_time, differ);
         return differ;
     }
 
