@@ -11,7 +11,7 @@ Position after(Position at, uint16_t number) {
     return {at.opponent & ~removed, (at.mover & ~from) | to};
 }
 
-// The lower, the better for who leads there: its losses by rising depth, draws, its wins by falling depth.
+// A better move leads to a lower number: lost positions by rising depth, then draws, then won ones by falling depth.
 uint32_t order(uint16_t entry) {
     if (entry == MORRIS_DRAW) return 0x10000;
     return entry % 2 == 0 ? entry : 0x20000 - entry;
