@@ -6,7 +6,7 @@ use Rattle.lists.specs.Lists.{member}
 use Rattle.sets.specs.Sets.{bit, setFrom}
 use Rattle.board.specs.declared.Position.{Position}
 use Rattle.board.specs.Board.{boardOf}
-use Rattle.rules.specs.Ply.{destinations, slide, removable, removals, listedMoves}
+use Rattle.rules.specs.Ply.{destinations, slide, removable, removals, legalMoves}
 use Rattle.plies.specs.Inner.Positions.{Placed}
 use Rattle.making.proofs.Numbers.{number-listed}
 use Rattle.asking.specs.Inner.Questions.{Removing}
@@ -18,6 +18,6 @@ pub removing : (rings : ℕ) (position : Position) → Placed rings position →
     → (n : ℕ) → n ≡ 1024 * from + 32 * to → Removing rings position n taken
 removing rings position placed from to own destination low taken e n d = record {
   small = omega (arith, low, d);
-  listed = λ r b. ap (λ (k : ℕ). member (k + r) (listedMoves rings (boardOf (8 * rings) position))) d
+  listed = λ r b. ap (λ (k : ℕ). member (k + r) (legalMoves rings (boardOf (8 * rings) position))) d
       ∙ number-listed rings position placed from to r own destination (sym (ap (λ (x : ℕ). bit x r) e) ∙ b);
 }

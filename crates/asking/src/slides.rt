@@ -7,8 +7,8 @@ ghost use lib.ListN.{length};
 ghost use Rattle.lists.specs.Lists.{any, member};
 ghost use Rattle.sets.specs.Sets.{elements};
 ghost use Rattle.board.specs.Board.{boardOf};
-ghost use Rattle.rules.specs.Ply.{destinations, afterPly, listedMoves};
-ghost use Rattle.plies.specs.Inner.Listing.{listedFrom};
+ghost use Rattle.rules.specs.Ply.{destinations, afterPly, legalMoves};
+ghost use Rattle.plies.specs.Inner.Listing.{legalFrom};
 ghost use Rattle.probing.specs.Inner.Conditions.{Probing};
 ghost use Rattle.asking.specs.Inner.Questions.{Movable, Removing, entryAsked};
 use super::ranges::Question;
@@ -30,7 +30,7 @@ fn leads(
     number: usize,
 ) -> bool
     requires { ⌜ Probing (now binomials) (length (now tablebase)) rings (question .starts) position ⌝ }
-    requires { ⌜ member number (listedMoves rings (boardOf (8 * rings) position)) ≡ true ⌝ }
+    requires { ⌜ member number (legalMoves rings (boardOf (8 * rings) position)) ≡ true ⌝ }
     ensures { λ r. ⌜ r ≡ entryAsked (now (tablebase .entry)) question (boardOf (8 * rings) position) (afterPly (boardOf (8 * rings) position) number) ⌝ }
 {
     let entry = probing::entry_after_move(
@@ -91,7 +91,7 @@ pub fn some_slide(
     requires { ⌜ Movable rings (now masks) position stone ⌝ }
     ensures { λ r. ⌜ r ≡ any (λ m. entryAsked (now (tablebase .entry)) question (boardOf (8 * rings) position)
         (afterPly (boardOf (8 * rings) position) m))
-        (listedFrom rings (boardOf (8 * rings) position) (stone .from) (destinations rings (boardOf (8 * rings) position) (stone .from))) ⌝ }
+        (legalFrom rings (boardOf (8 * rings) position) (stone .from) (destinations rings (boardOf (8 * rings) position) (stone .from))) ⌝ }
 {
     let mut left = stone.tos;
     while left != 0 {

@@ -9,7 +9,7 @@ use borrow.Author.Tests.{eq-eqb}
 use Rattle.lists.specs.Lists.{any}
 use Rattle.lists.proofs.Tests.{clash, any-none}
 use Rattle.board.specs.Board.{count}
-use Rattle.rules.specs.Ply.{removable, listedMoves, afterPly, successors}
+use Rattle.rules.specs.Ply.{removable, legalMoves, afterPly, successors}
 use Rattle.rules.proofs.Listed.{of-successor}
 use Rattle.game.specs.Game.{voidEntry}
 use Rattle.probing.specs.Inner.Probes.{probe}
@@ -19,7 +19,7 @@ use Rattle.bestmove.proofs.Worths.{Told}
 
 pub moves-told : (tablebase : List ℕ) → ((i : ℕ) → getD tablebase i 0 < 65536) → (same fewer rings : ℕ) (b : List ℕ)
     → any (λ c. eqb (probe tablebase same fewer (count 2 b) c) voidEntry) (successors (λ n c. removable n c) rings b) ≡ false
-    → (m : ℕ) → List·Memᴰ m (listedMoves rings b) → Told (entryBy tablebase same fewer b m)
+    → (m : ℕ) → List·Memᴰ m (legalMoves rings b) → Told (entryBy tablebase same fewer b m)
 moves-told tablebase fits same fewer rings b none m i = record {
   small = probe-small tablebase same fewer (count 2 b) (afterPly b m) fits;
   some = λ e. clash (eq-eqb _ voidEntry e)

@@ -7,7 +7,7 @@ ghost use lib.Dec.{ltb};
 ghost use lib.ListN.{length};
 ghost use Rattle.lists.specs.Lists.{member};
 ghost use Rattle.board.specs.Board.{count, boardOf};
-ghost use Rattle.rules.specs.Ply.{listedMoves};
+ghost use Rattle.rules.specs.Ply.{legalMoves};
 ghost use Rattle.probing.specs.Inner.Conditions.{Probing};
 ghost use Rattle.bestmove.specs.Inner.Choosing.{NoneVoid, Choosing};
 ghost use Rattle.bestmove.specs.Best.{bestEntry, bestMove};
@@ -58,7 +58,7 @@ fn with_entry(
     number: u16,
 ) -> Best
     requires { ⌜ Probing (now binomials) (length (now tablebase)) rings starts position ⌝ }
-    requires { ⌜ member number (listedMoves rings (boardOf (8 * rings) position)) ≡ true ⌝ }
+    requires { ⌜ member number (legalMoves rings (boardOf (8 * rings) position)) ≡ true ⌝ }
     ensures { λ r. ⌜ (r .number ≡ number) × (r .entry ≡ entryBy (now (tablebase .entry)) (starts .same) (starts .fewer) (boardOf
         (8 * rings) position) number) ⌝ }
 {
@@ -85,12 +85,12 @@ fn best_of(
     moves: &[u16],
 ) -> Best
     requires { ⌜ NoneVoid (now tablebase) (now binomials) rings starts position ⌝ }
-    requires { ⌜ (1 ≤ length (now moves)) × (now moves ≡ listedMoves rings (boardOf (8 * rings) position)) ⌝ }
+    requires { ⌜ (1 ≤ length (now moves)) × (now moves ≡ legalMoves rings (boardOf (8 * rings) position)) ⌝ }
     ensures number { λ r. ⌜ r .number ≡ bestMove (λ m. entryBy (now (tablebase .entry)) (starts .same) (starts .fewer) (boardOf (8 * rings) position) m)
-        (listedMoves rings (boardOf (8 * rings) position)) ⌝ }
+        (legalMoves rings (boardOf (8 * rings) position)) ⌝ }
     ensures entry { λ r. ⌜ r .entry ≡ bestEntry (map (λ m. entryBy (now (tablebase .entry)) (starts .same) (starts .fewer) (boardOf
         (8 * rings) position) m)
-        (listedMoves rings (boardOf (8 * rings) position))) ⌝ }
+        (legalMoves rings (boardOf (8 * rings) position))) ⌝ }
 {
     let mut best = with_entry(tablebase, binomials, rings, starts, position, moves[0]);
     let mut i = 1;
@@ -114,10 +114,10 @@ pub fn best_move(
     requires { ⌜ NoneVoid (now tablebase) (now binomials) rings starts position ⌝ }
     requires { ⌜ Choosing rings (now masks) position ⌝ }
     ensures number { λ r. ⌜ r .number ≡ bestMove (λ m. entryBy (now (tablebase .entry)) (starts .same) (starts .fewer) (boardOf (8 * rings) position) m)
-        (listedMoves rings (boardOf (8 * rings) position)) ⌝ }
+        (legalMoves rings (boardOf (8 * rings) position)) ⌝ }
     ensures entry { λ r. ⌜ r .entry ≡ bestEntry (map (λ m. entryBy (now (tablebase .entry)) (starts .same) (starts .fewer) (boardOf
         (8 * rings) position) m)
-        (listedMoves rings (boardOf (8 * rings) position))) ⌝ }
+        (legalMoves rings (boardOf (8 * rings) position))) ⌝ }
 {
     let mut list = [0u16; MOVES_MAX];
     listing::list_moves(rings, masks, position, &mut list);

@@ -14,7 +14,7 @@ use Rattle.lists.proofs.Tests.{and-left, and-right}
 use Rattle.sizes.specs.Size.{size}
 use Rattle.ranking.specs.Unrank.{unrank}
 use Rattle.ranking.proofs.Inverse.{rank-unrank}
-use Rattle.rules.specs.Ply.{removable, listedMoves, afterPly}
+use Rattle.rules.specs.Ply.{removable, legalMoves, afterPly}
 use Rattle.rules.proofs.Listed.{successors-are}
 use Rattle.rules.proofs.Jumps.{three-free}
 use Rattle.game.specs.Game.{drawEntry}
@@ -28,8 +28,8 @@ empty-map f [] = refl
 empty-map f (x ∷ l) = refl
 
 -- a board without a move has no successor
-pub no-successor : (rings : ℕ) (b : List ℕ) → isEmpty (listedMoves rings b) ≡ isEmpty (next rings b)
-no-successor rings b = sym (ap isEmpty (successors-are (λ n c. removable n c) rings b) ∙ empty-map (λ n. afterPly b n) (listedMoves rings b))
+pub no-successor : (rings : ℕ) (b : List ℕ) → isEmpty (legalMoves rings b) ≡ isEmpty (next rings b)
+no-successor rings b = sym (ap isEmpty (successors-are (λ n c. removable n c) rings b) ∙ empty-map (λ n. afterPly b n) (legalMoves rings b))
 
 -- a place: closed, blocked, or free to move
 module _ (rings : ℕ) (t : Table) (r : ℕ) (now : List ℕ) where

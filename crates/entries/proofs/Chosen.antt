@@ -15,7 +15,7 @@ use Rattle.board.specs.declared.Position.{Position}
 use Rattle.board.specs.Board.{count, boardOf}
 use Rattle.layout.specs.Layout.{start}
 use Rattle.layout.proofs.OneToOne.{in-range}
-use Rattle.rules.specs.Ply.{removable, listedMoves, afterPly, successors}
+use Rattle.rules.specs.Ply.{removable, legalMoves, afterPly, successors}
 use Rattle.rules.proofs.Listed.{of-successor}
 use Rattle.game.specs.Game.{voidEntry}
 use Rattle.outcomes.specs.Places.{successorEntry, successorVoid}
@@ -40,8 +40,8 @@ pub record Starting (rings k : ℕ) (b : List ℕ) (same fewer : ℕ) : Type 0 w
   pub fewer-is : fewer ≡ lowerStart (8 * rings) k (count 1 b) (count 2 b)
 
 -- a board with a move has one to choose
-pub some-move : (rings : ℕ) (b : List ℕ) → isEmpty (listedMoves rings b) ≡ false → 1 ≤ length (listedMoves rings b)
-some-move rings b e = let z = eqb-false (length (listedMoves rings b)) 0 (sym (empty-length (listedMoves rings b)) ∙ e) in omega (arith, z)
+pub some-move : (rings : ℕ) (b : List ℕ) → isEmpty (legalMoves rings b) ≡ false → 1 ≤ length (legalMoves rings b)
+some-move rings b e = let z = eqb-false (length (legalMoves rings b)) 0 (sym (empty-length (legalMoves rings b)) ∙ e) in omega (arith, z)
 
 module _ {lent : List ℕ} {n : ℕ} (rings k : ℕ) (p : Position) (w : InTablebase lent n rings k p) (tablebase : List ℕ) where
   abbrev b : List ℕ
@@ -57,7 +57,7 @@ module _ {lent : List ℕ} {n : ℕ} (rings k : ℕ) (p : Position) (w : InTable
   read-is : (d : List ℕ) → List·Memᴰ d (next rings b) → probe tablebase same fewer (count 2 b) d ≡ successorEntry rings k tablebase d
   read-is = probed rings k (count 1 b) (count 2 b) (w .placed .small) (w .opponent-low) b (own-table rings k b (in-tables rings k p w)) tablebase
 
-  entry-is : (m : ℕ) → List·Memᴰ m (listedMoves rings b) → entryBy tablebase same fewer b m ≡ entryAfter rings k tablebase b m
+  entry-is : (m : ℕ) → List·Memᴰ m (legalMoves rings b) → entryBy tablebase same fewer b m ≡ entryAfter rings k tablebase b m
   entry-is m i = read-is (afterPly b m) (of-successor (λ n c. removable n c) rings b m i)
 
   module _ {x y : ℕ} (s : Starting rings k b x y) where
@@ -69,29 +69,29 @@ module _ {lent : List ℕ} {n : ℕ} (rings k : ℕ) (p : Position) (w : InTable
     pub void-of : any (λ d. eqb (probe tablebase x y (count 2 b) d) voidEntry) (successors (λ n c. removable n c) rings b) ≡ successorVoid rings k tablebase b
     void-of = rw (s .same-is, s .fewer-is) (read-void rings k tablebase b (λ d. probe tablebase same fewer (count 2 b) d) read-is)
 
-    pub move-of : bestMove (λ m. entryBy tablebase x y b m) (listedMoves rings b) ≡ bestListed rings k tablebase b
+    pub move-of : bestMove (λ m. entryBy tablebase x y b m) (legalMoves rings b) ≡ bestListed rings k tablebase b
     unfolding bestListed
-    move-of = rw (s .same-is, s .fewer-is) (best-same _ _ (listedMoves rings b) entry-is)
+    move-of = rw (s .same-is, s .fewer-is) (best-same _ _ (legalMoves rings b) entry-is)
 
     -- "with the entry of the successor it leads to"
-    pub entry-of : isEmpty (listedMoves rings b) ≡ false
-        → bestEntry (map (λ m. entryBy tablebase x y b m) (listedMoves rings b)) ≡ successorEntry rings k tablebase (bestSuccessor rings k tablebase b)
+    pub entry-of : isEmpty (legalMoves rings b) ≡ false
+        → bestEntry (map (λ m. entryBy tablebase x y b m) (legalMoves rings b)) ≡ successorEntry rings k tablebase (bestSuccessor rings k tablebase b)
     unfolding bestListed bestSuccessor
     entry-of some =
         rw (s .same-is, s .fewer-is)
-        (ap bestEntry (map-same _ _ (listedMoves rings b) entry-is)
-        ∙ sym (best-listed (λ m. entryAfter rings k tablebase b m) (listedMoves rings b) some .1))
+        (ap bestEntry (map-same _ _ (legalMoves rings b) entry-is)
+        ∙ sym (best-listed (λ m. entryAfter rings k tablebase b m) (legalMoves rings b) some .1))
 
 -- the choice at a board, by what was found
 module _ (rings k : ℕ) (tablebase b : List ℕ) where
   abbrev best : List ℕ
   best = bestListed rings k tablebase b ∷ successorEntry rings k tablebase (bestSuccessor rings k tablebase b) ∷ []
 
-  pub blocked-choice : isEmpty (listedMoves rings b) ≡ true → refused 9 ≡ choiceAt rings k tablebase b
+  pub blocked-choice : isEmpty (legalMoves rings b) ≡ true → refused 9 ≡ choiceAt rings k tablebase b
   unfolding choiceAt
   blocked-choice e = ap (λ (t : Bool). answer (cond t 9 (cond (successorVoid rings k tablebase b) 12 0)) best) (sym e)
 
-  module _ (some : isEmpty (listedMoves rings b) ≡ false) where
+  module _ (some : isEmpty (legalMoves rings b) ≡ false) where
     pub void-choice : successorVoid rings k tablebase b ≡ true → refused 12 ≡ choiceAt rings k tablebase b
     unfolding choiceAt
     void-choice v = ap₂ (λ (t u : Bool). answer (cond t 9 (cond u 12 0)) best) (sym some) (sym v)

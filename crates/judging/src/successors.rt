@@ -5,7 +5,7 @@ ghost use lib.ListN.{length};
 ghost use Rattle.lists.specs.Lists.{any};
 ghost use Rattle.board.specs.Board.{boardOf};
 ghost use Rattle.rules.specs.Ply.{destinations, afterPly, removable, successors};
-ghost use Rattle.plies.specs.Inner.Listing.{listedFrom};
+ghost use Rattle.plies.specs.Inner.Listing.{legalFrom};
 ghost use Rattle.masks.specs.Inner.Masks.{Masks};
 ghost use Rattle.probing.specs.Inner.Conditions.{Probing};
 ghost use Rattle.asking.specs.Inner.Questions.{Movable, entryAsked};
@@ -26,7 +26,7 @@ fn some_destination(
     requires { ⌜ Movable rings (now masks) position stone ⌝ }
     ensures { λ r. ⌜ r ≡ any (λ m. entryAsked (now (tablebase .entry)) question (boardOf (8 * rings) position)
         (afterPly (boardOf (8 * rings) position) m))
-        (listedFrom rings (boardOf (8 * rings) position) (stone .from) (destinations rings (boardOf (8 * rings) position) (stone .from))) ⌝ }
+        (legalFrom rings (boardOf (8 * rings) position) (stone .from) (destinations rings (boardOf (8 * rings) position) (stone .from))) ⌝ }
 {
     if sets::count(stone.tos) <= inserting::WALK_PAYS_ABOVE {
         return asking::some_slide(

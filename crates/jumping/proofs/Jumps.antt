@@ -16,7 +16,7 @@ use Rattle.board.proofs.Sides.{length-board}
 use Rattle.board.proofs.OneToOne.{vacant-at}
 use Rattle.inserting.specs.Inner.Inserting.{Inserting, Vacant}
 use Rattle.inserting.proofs.Puts.{take-mover-on, put-stone-board}
-use Rattle.rules.specs.Ply.{noRemoval, removedOf, moveNumber, listedMoves, afterPly}
+use Rattle.rules.specs.Ply.{noRemoval, removedOf, moveNumber, legalMoves, afterPly}
 use Rattle.rules.proofs.Leads.{MoverLeft, Parts, parts-of}
 use Rattle.plies.specs.Inner.Positions.{Placed, Slide}
 use Rattle.plies.proofs.OnPositions.{opponent-small}
@@ -79,7 +79,7 @@ module _ (rings : ℕ) (position : Position) (placed : Placed rings position) (f
       (λ e. absurd (omega (arith, bit-low 24 (position .opponent) noRemoval (opponent-small rings position placed) e)))
       (bit-cases (position .opponent) noRemoval))
 
-  module _ (to : ℕ) (s : Slide rings position from to) (listed : member (moveNumber from to noRemoval) (listedMoves rings board) ≡ true) where
+  module _ (to : ℕ) (s : Slide rings position from to) (listed : member (moveNumber from to noRemoval) (legalMoves rings board) ≡ true) where
     parts : Parts (moveNumber from to noRemoval) from to noRemoval
     parts = parts-of (moveNumber from to noRemoval) from to noRemoval (omega (arith, s .low, placed .small)) (omega arith) refl
 

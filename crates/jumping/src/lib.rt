@@ -6,7 +6,7 @@ ghost use Rattle.lists.specs.Lists.{any};
 ghost use Rattle.sets.specs.Sets.{elements};
 ghost use Rattle.board.specs.Board.{boardOf};
 ghost use Rattle.rules.specs.Ply.{destinations, afterPly};
-ghost use Rattle.plies.specs.Inner.Listing.{listedFrom};
+ghost use Rattle.plies.specs.Inner.Listing.{legalFrom};
 ghost use Rattle.probing.specs.Inner.Conditions.{Probing};
 ghost use Rattle.asking.specs.Inner.Questions.{Movable, Removing, entryAsked};
 ghost use Rattle.jumping.specs.Inner.Jumping.{Jumping};
@@ -66,7 +66,7 @@ pub fn some_jump(
     requires { ⌜ Movable rings (now masks) position stone × (stone .tos ≡ 0 → ⊥) ⌝ }
     ensures { λ r. ⌜ r ≡ any (λ m. entryAsked (now (tablebase .entry)) question (boardOf (8 * rings) position)
         (afterPly (boardOf (8 * rings) position) m))
-        (listedFrom rings (boardOf (8 * rings) position) (stone .from) (destinations rings (boardOf (8 * rings) position) (stone .from))) ⌝ }
+        (legalFrom rings (boardOf (8 * rings) position) (stone .from) (destinations rings (boardOf (8 * rings) position) (stone .from))) ⌝ }
 {
     let lifted = board::Position {
         mover: position.opponent,

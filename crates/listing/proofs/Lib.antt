@@ -1,1 +1,2 @@
 pub mod MoveCounts
+pub mod SlideMoves

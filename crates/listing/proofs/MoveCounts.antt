@@ -1,47 +1,56 @@
--- How many moves a position has at the most, stone by stone and point by point: the counts stay small. Assumes nothing.
+-- How many moves a position has at the most, of all or of those that pass a test, stone by stone and point by point: the counts stay small. Assumes
+-- nothing.
 use mathlib.Core.Path.{_≡_, refl, sym, ap, subst, _∙_}
+use mathlib.Core.Bool.{Bool}
 use mathlib.Core.List.{List}
 use Prim.Native.Nat.{ℕ, _*_, _≤_}
 use native.Mathlib.Omega.{arith}
 use lib.ListN.{length, length-map}
-use Rattle.lists.proofs.Lengths.{each-le}
-use Rattle.sets.specs.Sets.{members, elements, setFrom}
+use Rattle.lists.specs.Lists.{keep}
+use Rattle.lists.proofs.Lengths.{keep-le, each-le}
+use Rattle.lists.proofs.Parted.{keep-each}
+use Rattle.sets.specs.Sets.{elements, setFrom}
 use Rattle.sets.proofs.Laws.{members-le}
 use Rattle.sets.proofs.Elements.{length-elements}
 use Rattle.sets.proofs.Passing.{given}
 use Rattle.board.specs.declared.Position.{Position}
 use Rattle.board.specs.Board.{boardOf}
-use Rattle.rules.specs.Ply.{destinations, slide, removable, removals, moveNumber, slideMoves, stoneMoves}
+use Rattle.rules.specs.Ply.{destinations, slide, removable, removals, moveNumber, slideMoves, stoneMoves, legalMoves}
 use Rattle.plies.specs.Inner.Positions.{Placed}
-use Rattle.plies.proofs.StoneMoves.{elements-removals, fromStone, stone-given}
+use Rattle.plies.proofs.StoneMoves.{elements-removals, fromStone, moves-given, stone-given}
 
 -- document 01's rule
 abbrev rule : ℕ → List ℕ → List ℕ
 rule rings b = removable rings b
 
-module _ (rings : ℕ) (small : rings ≤ 3) where
-  pub count-removals : (c : List ℕ) (to : ℕ) → members (setFrom (removals rule rings c to)) 32 ≡ length (removals rule rings c to)
-  count-removals c to = sym (length-elements 32 (setFrom (removals rule rings c to))) ∙ ap length (elements-removals rings small c to)
-
+module _ (rings : ℕ) (small : rings ≤ 3) (b : List ℕ) (from : ℕ) where
   -- 32 moves of one stone to one point at the most, so 1,024 of one stone
-  slide-le : (b : List ℕ) (from to : ℕ) → length (slideMoves rule rings b from to) ≤ 32
-  slide-le b from to =
+  slide-le : (to : ℕ) → length (slideMoves rule rings b from to) ≤ 32
+  slide-le to =
       omega (
         arith,
         length-map (removals rule rings (slide b from to) to) (λ r. moveNumber from to r),
-        count-removals (slide b from to) to,
+        ap length (elements-removals rings small (slide b from to) to),
+        length-elements 32 (setFrom (removals rule rings (slide b from to) to)),
         members-le (setFrom (removals rule rings (slide b from to) to)) 32,
       )
 
-  pub stone-le : (b : List ℕ) (from tos : ℕ) → length (stoneMoves rule rings b from (elements 32 tos)) ≤ 1024
-  stone-le b from tos =
+  stone-le : (tos : ℕ) → length (stoneMoves rule rings b from (elements 32 tos)) ≤ 1024
+  stone-le tos =
       omega (
         arith,
         each-le (λ to. slideMoves rule rings b from to) 32 (elements 32 tos)
-            (λ to m. slide-le b from to),
+            (λ to m. slide-le to),
         length-elements 32 tos,
         members-le tos 32,
       )
+
+  module _ (test : ℕ → Bool) (tos : ℕ) where
+    pub stone-kept : given (λ to. keep test (slideMoves rule rings b from to)) tos ≡ keep test (stoneMoves rule rings b from (elements 32 tos))
+    stone-kept = sym (keep-each test (λ to. slideMoves rule rings b from to) (elements 32 tos))
+
+    pub stone-few : length (given (λ to. keep test (slideMoves rule rings b from to)) tos) ≤ 1024
+    stone-few = omega (arith, ap length stone-kept, keep-le test (stoneMoves rule rings b from (elements 32 tos)), stone-le tos)
 
 module _ (rings : ℕ) (position : Position) (placed : Placed rings position) where
   abbrev board : List ℕ
@@ -51,8 +60,8 @@ module _ (rings : ℕ) (position : Position) (placed : Placed rings position) wh
   stoneMovesFrom from = fromStone rings position placed from
 
   -- 32 stones of 1,024 moves each, and more are not to be had
-  pub moves-small : length (given stoneMovesFrom (position .mover)) ≤ 32768
-  moves-small =
+  moves-le : length (given stoneMovesFrom (position .mover)) ≤ 32768
+  moves-le =
       omega (
         arith,
         each-le stoneMovesFrom 1024 (elements 32 (position .mover)) (λ from m. few from),
@@ -65,3 +74,17 @@ module _ (rings : ℕ) (position : Position) (placed : Placed rings position) wh
       few from =
           subst (λ (l : List ℕ). length l ≤ 1024) (stone-given rings position placed from (setFrom (destinations rings board from)) refl)
           (stone-le rings (placed .small) board from (setFrom (destinations rings board from)))
+
+  module _ (test : ℕ → Bool) where
+    pub moves-kept : given (λ from. keep test (stoneMovesFrom from)) (position .mover) ≡ keep test (legalMoves rings board)
+    moves-kept =
+        sym (keep-each test stoneMovesFrom (elements 32 (position .mover))) ∙ ap (keep test) (sym (moves-given rings position placed))
+
+    pub moves-few : length (given (λ from. keep test (stoneMovesFrom from)) (position .mover)) ≤ 32768
+    moves-few =
+        omega (
+          arith,
+          ap length (keep-each test stoneMovesFrom (elements 32 (position .mover))),
+          keep-le test (given stoneMovesFrom (position .mover)),
+          moves-le,
+        )

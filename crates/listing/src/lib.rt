@@ -1,4 +1,4 @@
-// The moves of a position: counted, and written as a list.
+// The moves of a position: counted, and written as a list, captures first.
 ghost use mathlib.Core.Path.{_≡_};
 ghost use mathlib.Core.List.{map};
 ghost use Prim.Native.Nat.{_+_, _*_, _≤_, _<_};
@@ -6,9 +6,20 @@ ghost use lib.ListN.{length};
 ghost use lib.Seq.{sets};
 ghost use Rattle.sets.specs.Sets.{elements};
 ghost use Rattle.board.specs.Board.{boardOf};
-ghost use Rattle.rules.specs.Ply.{listedMoves};
-ghost use Rattle.plies.specs.Inner.Listing.{listedFrom};
+ghost use Rattle.rules.specs.Ply.{legalMoves};
+ghost use Rattle.rules.specs.MoveList.{captures, others, listedMoves};
+ghost use Rattle.plies.specs.Inner.Listing.{legalFrom};
 ghost use Rattle.plies.specs.Inner.Positions.{Playable, Slides};
+ghost use Rattle.listing.specs.Inner.Places.{dealt, Room};
+
+// The point that stands for no removal.
+const NO_STONE: usize = 31;
+
+// How many of a position's moves are captures, and how many are not.
+pub struct Counts {
+    pub captures: usize,
+    pub others: usize,
+}
 
 // How many moves one stone has to the points of a set.
 fn count_stone(
@@ -17,35 +28,45 @@ fn count_stone(
     position: board::Position,
     from: usize,
     tos: u32,
-) -> usize
+) -> Counts
     requires { ⌜ Playable rings (now masks) position ⌝ }
     requires { ⌜ Slides rings position from tos ⌝ }
-    ensures { λ r. ⌜ (r ≡ length (listedFrom rings (boardOf (8 * rings) position) from (elements 32 tos))) × (r ≤ 1024) ⌝ }
+    ensures captures { λ r. ⌜ (r .captures ≡ length (captures (legalFrom rings (boardOf (8 * rings) position) from (elements 32 tos))))
+        × (r .captures ≤ 1024) ⌝ }
+    ensures others { λ r. ⌜ (r .others ≡ length (others (legalFrom rings (boardOf (8 * rings) position) from (elements 32 tos))))
+        × (r .others ≤ 1024) ⌝ }
 {
-    let mut n = 0;
+    let mut captures = 0;
+    let mut others = 0;
     let mut left = tos;
     while left != 0 {
         let to = sets::take_lowest(left);
-        n += sets::count(plies::removals(rings, masks, position, from, to.lowest)) as usize;
+        let removals = plies::removals(rings, masks, position, from, to.lowest);
+        captures += sets::count(sets::without(removals, NO_STONE)) as usize;
+        others += sets::has(removals, NO_STONE) as usize;
         left = to.rest;
     }
-    n
+    Counts { captures, others }
 }
 
 // How many moves a position has.
-pub fn count_moves(rings: usize, masks: &[u32; 72], position: board::Position) -> usize
+pub fn count_moves(rings: usize, masks: &[u32; 72], position: board::Position) -> Counts
     requires { ⌜ Playable rings (now masks) position ⌝ }
-    ensures { λ r. ⌜ r ≡ length (listedMoves rings (boardOf (8 * rings) position)) ⌝ }
+    ensures captures { λ r. ⌜ (r .captures ≡ length (captures (legalMoves rings (boardOf (8 * rings) position)))) × (r .captures ≤ 32768) ⌝ }
+    ensures others { λ r. ⌜ (r .others ≡ length (others (legalMoves rings (boardOf (8 * rings) position)))) × (r .others ≤ 32768) ⌝ }
 {
-    let mut n = 0;
+    let mut captures = 0;
+    let mut others = 0;
     let mut left = position.mover;
     while left != 0 {
         let from = sets::take_lowest(left);
         let tos = plies::destinations(rings, masks, position, from.lowest);
-        n += count_stone(rings, masks, position, from.lowest, tos);
+        let counts = count_stone(rings, masks, position, from.lowest, tos);
+        captures += counts.captures;
+        others += counts.others;
         left = from.rest;
     }
-    n
+    Counts { captures, others }
 }
 
 // Writes a move for each point of a set that it may remove, and answers the next place.
@@ -64,7 +85,13 @@ fn list_removals(base: usize, removals: u32, list: &mut [u16], at: usize) -> usi
     k
 }
 
-// Writes the moves of one stone to the points of a set, and answers the next place.
+// Where the next capture and the next of the other moves are written.
+struct Places {
+    captures: usize,
+    others: usize,
+}
+
+// Writes the moves of one stone to the points of a set, and answers the next places.
 fn list_stone(
     rings: usize,
     masks: &[u32; 72],
@@ -72,37 +99,53 @@ fn list_stone(
     from: usize,
     tos: u32,
     list: &mut [u16],
-    at: usize,
-) -> usize
+    at: Places,
+) -> Places
     requires { ⌜ Playable rings (now masks) position ⌝ }
     requires { ⌜ Slides rings position from tos ⌝ }
-    requires { ⌜ at + length (listedFrom rings (boardOf (8 * rings) position) from (elements 32 tos)) ≤ length (now list) ⌝ }
-    ensures place { λ r. ⌜ r ≡ at + length (listedFrom rings (boardOf (8 * rings) position) from (elements 32 tos)) ⌝ }
-    ensures list { λ _. ⌜ now (list .exit) ≡ sets (now (list .entry)) at (listedFrom rings (boardOf (8 * rings) position) from (elements 32 tos)) ⌝ }
+    requires { ⌜ Room (length (now list)) (at .captures) (at .others) (legalFrom rings (boardOf (8 * rings) position) from (elements 32 tos)) ⌝ }
+    ensures captures { λ r. ⌜ r .captures ≡ at .captures + length (captures (legalFrom rings (boardOf (8 * rings) position) from (elements 32 tos))) ⌝ }
+    ensures others { λ r. ⌜ r .others ≡ at .others + length (others (legalFrom rings (boardOf (8 * rings) position) from (elements 32 tos))) ⌝ }
+    ensures list { λ _. ⌜ now (list .exit) ≡ dealt (now (list .entry)) (at .captures) (at .others)
+        (legalFrom rings (boardOf (8 * rings) position) from (elements 32 tos)) ⌝ }
 {
-    let mut k = at;
+    let mut captures = at.captures;
+    let mut others = at.others;
     let mut left = tos;
     while left != 0 {
         let to = sets::take_lowest(left);
         let removals = plies::removals(rings, masks, position, from, to.lowest);
-        k = list_removals(making::slide_number(from, to.lowest), removals, list, k);
+        let stones = sets::without(removals, NO_STONE);
+        let slide = making::slide_number(from, to.lowest);
+        captures = list_removals(slide, stones, list, captures);
+        others = list_removals(slide, removals - stones, list, others);
         left = to.rest;
     }
-    k
+    Places { captures, others }
 }
 
-// Writes the moves of a position at the start of a list that has room for them.
-pub fn list_moves(rings: usize, masks: &[u32; 72], position: board::Position, list: &mut [u16])
+// Writes the moves of a position at the start of a list that has room for them: the captures, and from their number on the others.
+pub fn list_moves(
+    rings: usize,
+    masks: &[u32; 72],
+    position: board::Position,
+    others: usize,
+    list: &mut [u16],
+)
     requires { ⌜ Playable rings (now masks) position ⌝ }
+    requires { ⌜ others ≡ length (captures (legalMoves rings (boardOf (8 * rings) position))) ⌝ }
     requires { ⌜ length (listedMoves rings (boardOf (8 * rings) position)) ≤ length (now list) ⌝ }
     ensures { λ _. ⌜ now (list .exit) ≡ sets (now (list .entry)) 0 (listedMoves rings (boardOf (8 * rings) position)) ⌝ }
 {
-    let mut k = 0;
+    let mut at = Places {
+        captures: 0,
+        others,
+    };
     let mut left = position.mover;
     while left != 0 {
         let from = sets::take_lowest(left);
         let tos = plies::destinations(rings, masks, position, from.lowest);
-        k = list_stone(rings, masks, position, from.lowest, tos, list, k);
+        at = list_stone(rings, masks, position, from.lowest, tos, list, at);
         left = from.rest;
     }
 }

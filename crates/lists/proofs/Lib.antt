@@ -1,6 +1,8 @@
+pub mod Dealing
 pub mod Keep
 pub mod Lengths
 pub mod Members
+pub mod Parted
 pub mod Rises
 pub mod Table
 pub mod Tests

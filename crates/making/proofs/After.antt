@@ -9,21 +9,21 @@ use Rattle.lists.proofs.Tests.{member-is}
 use Rattle.board.specs.declared.Position.{Position}
 use Rattle.board.specs.Board.{positionOf, boardOf}
 use Rattle.board.proofs.Sides.{length-board, board-values}
-use Rattle.rules.specs.Ply.{removable, removedOf, listedMoves, afterPly}
+use Rattle.rules.specs.Ply.{removable, removedOf, legalMoves, afterPly}
 use Rattle.rules.proofs.Listed.{removable-takes}
 use Rattle.rules.proofs.Leads.{Leads, ply-leads}
 use Rattle.plies.specs.Inner.Positions.{Placed}
 use Rattle.plies.proofs.BoardPositions.{board-placed, board-back}
 
 module _ (rings : ℕ) (position : Position) (placed : Placed rings position) (n : ℕ)
-    (listed : member n (listedMoves rings (boardOf (8 * rings) position)) ≡ true) where
+    (listed : member n (legalMoves rings (boardOf (8 * rings) position)) ≡ true) where
   abbrev board : List ℕ
   board = boardOf (8 * rings) position
 
   pub after-leads : Leads board (afterPly board n) (removedOf n)
   after-leads =
       ply-leads (λ m b. removable m b) removable-takes rings (placed .small) board (board-values (8 * rings) position (placed .on))
-      (length-board (8 * rings) position) n (member-is n (listedMoves rings board) listed)
+      (length-board (8 * rings) position) n (member-is n (legalMoves rings board) listed)
 
   points : length (afterPly board n) ≡ 8 * rings
   points = after-leads .points ∙ length-board (8 * rings) position

@@ -4,7 +4,7 @@ ghost use mathlib.Core.Bool.{true};
 ghost use Prim.Native.Nat.{_+_, _*_, _<_};
 ghost use Rattle.lists.specs.Lists.{member};
 ghost use Rattle.board.specs.Board.{positionOf, boardOf};
-ghost use Rattle.rules.specs.Ply.{afterPly, listedMoves};
+ghost use Rattle.rules.specs.Ply.{afterPly, legalMoves};
 ghost use Rattle.plies.specs.Inner.Positions.{Placed, Playable};
 
 // A move number is FROM × from + TO × to + removed, where to and removed are below TO.
@@ -23,7 +23,7 @@ pub fn slide_number(from: usize, to: usize) -> usize
 // Whether a number is one of a position's moves: its stone, its destination and its removal are each tested.
 pub fn is_move(rings: usize, masks: &[u32; 72], position: board::Position, number: usize) -> bool
     requires { ⌜ Playable rings (now masks) position ⌝ }
-    ensures { λ r. ⌜ r ≡ member number (listedMoves rings (boardOf (8 * rings) position)) ⌝ }
+    ensures { λ r. ⌜ r ≡ member number (legalMoves rings (boardOf (8 * rings) position)) ⌝ }
 {
     let from = number / FROM;
     let to = number / TO % TO;
@@ -45,7 +45,7 @@ pub fn is_move(rings: usize, masks: &[u32; 72], position: board::Position, numbe
 // The position after a listed move: the stone slides, a stone may be removed, and the sides change names.
 pub fn after_ply(rings: usize, position: board::Position, number: usize) -> board::Position
     requires { ⌜ Placed rings position ⌝ }
-    requires { ⌜ member number (listedMoves rings (boardOf (8 * rings) position)) ≡ true ⌝ }
+    requires { ⌜ member number (legalMoves rings (boardOf (8 * rings) position)) ≡ true ⌝ }
     ensures { λ r. ⌜ r ≡ positionOf (afterPly (boardOf (8 * rings) position) number) ⌝ }
 {
     let mover = position.mover;

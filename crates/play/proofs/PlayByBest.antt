@@ -8,7 +8,7 @@ use Prim.Native.Nat.{ℕ, _+_, _*_, _≤_, _<_, _%_}
 use native.Mathlib.Omega.{arith}
 use lib.ListN.{length, getD}
 use Rattle.lists.proofs.Tests.{untrue, is-member, empty-none}
-use Rattle.rules.specs.Ply.{removable, listedMoves, afterPly}
+use Rattle.rules.specs.Ply.{removable, legalMoves, afterPly}
 use Rattle.rules.proofs.Listed.{successors-are, successor-of}
 use Rattle.rules.proofs.Leads.{Reached}
 use Rattle.game.specs.Game.{voidEntry, won}
@@ -64,7 +64,7 @@ module _ (rings k : ℕ) (tablebase : List ℕ) (whole : AcceptedTablebase rings
   unfolding bestSuccessor bestListed
   played =
       best-plays (next rings) (λ c. wholeSeed c) (Reached rings k) (whole-closed rings k (whole .rings-high)) (λ c x. whole-cases c)
-      (λ c. listedMoves rings c) (λ c m. afterPly c m) (successors-are (λ n c. removable n c) rings) (λ c. successorEntry rings k tablebase c)
+      (λ c. legalMoves rings c) (λ c m. afterPly c m) (successors-are (λ n c. removable n c) rings) (λ c. successorEntry rings k tablebase c)
       (reached-true rings k tablebase entries) n b w within
 
   pub best-play : Wins (next rings) (λ c. wholeSeed c) (λ c. bestSuccessor rings k tablebase c) n b
@@ -80,7 +80,7 @@ module _ (rings k : ℕ) (tablebase : List ℕ) (whole : AcceptedTablebase rings
   some =
       let m = wins-ply (next rings) (λ c. wholeSeed c) (λ c. bestSuccessor rings k tablebase c) n b best-play in
       let (x, i, f) = successor-of (λ n c. removable n c) rings b (bestSuccessor rings k tablebase b) m in
-      sym (untrue (moverBlocked rings b) (λ z. empty-none (listedMoves rings b) z i))
+      sym (untrue (moverBlocked rings b) (λ z. empty-none (legalMoves rings b) z i))
 
   best-made : (old : List ℕ) → length old ≡ 8 * rings
       → (makeMoveCall rings b (bestListed rings k tablebase b) old ≡ accepted [])
@@ -88,7 +88,7 @@ module _ (rings k : ℕ) (tablebase : List ℕ) (whole : AcceptedTablebase rings
   unfolding bestSuccessor bestListed
   best-made =
       listed-made rings b (both-right rings b k (length tablebase) right .0) (bestListed rings k tablebase b)
-      (is-member _ (listedMoves rings b) (best-listed (λ m. entryAfter rings k tablebase b m) (listedMoves rings b) some .0))
+      (is-member _ (legalMoves rings b) (best-listed (λ m. entryAfter rings k tablebase b m) (legalMoves rings b) some .0))
 
   pub best-told : Told rings k tablebase n b
   best-told =

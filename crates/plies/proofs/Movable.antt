@@ -11,8 +11,8 @@ use Rattle.sets.specs.Sets.{elements, setFrom}
 use Rattle.sets.proofs.Elements.{from-lt, elements-none, elements-lowest}
 use Rattle.board.specs.declared.Position.{Position}
 use Rattle.board.specs.Board.{boardOf}
-use Rattle.rules.specs.Ply.{holds, inMill, destinations, slide, removable, noRemoval, removals, slideMoves, listedMoves}
-use Rattle.plies.specs.Inner.Listing.{listedFrom}
+use Rattle.rules.specs.Ply.{holds, inMill, destinations, slide, removable, noRemoval, removals, slideMoves, legalMoves}
+use Rattle.plies.specs.Inner.Listing.{legalFrom}
 use Rattle.rules.proofs.Listed.{destination-vacant, removals-without, removals-with}
 use Rattle.plies.specs.Inner.Positions.{Placed}
 use Rattle.plies.proofs.SomeMove.{some-stone, some-move}
@@ -48,7 +48,7 @@ slide-some rings b from to =
 -- a stone has a move
 abbrev pub movable : ℕ → Position → ℕ → Bool
 movable rings position from =
-    some (listedFrom rings (boardOf (8 * rings) position) from (destinations rings (boardOf (8 * rings) position) from))
+    some (legalFrom rings (boardOf (8 * rings) position) from (destinations rings (boardOf (8 * rings) position) from))
 
 module _ (rings : ℕ) (position : Position) (placed : Placed rings position) where
   abbrev board : List ℕ
@@ -71,5 +71,5 @@ module _ (rings : ℕ) (position : Position) (placed : Placed rings position) wh
     stone-free n = sym movable-is ∙ ap some (elements-lowest tos tos-fits n)
 
   -- a position has none where no stone has one
-  pub none-movable : (t : Bool) → t ≡ any (λ from. movable rings position from) (elements 32 (position .mover)) → not t ≡ isEmpty (listedMoves rings board)
-  none-movable t e = ap not (e ∙ some-move rings position placed (λ m. true)) ∙ some-empty (listedMoves rings board)
+  pub none-movable : (t : Bool) → t ≡ any (λ from. movable rings position from) (elements 32 (position .mover)) → not t ≡ isEmpty (legalMoves rings board)
+  none-movable t e = ap not (e ∙ some-move rings position placed (λ m. true)) ∙ some-empty (legalMoves rings board)

@@ -8,8 +8,8 @@ use Rattle.lists.proofs.Tests.{any-each, any-map}
 use Rattle.sets.specs.Sets.{elements, setFrom}
 use Rattle.board.specs.declared.Position.{Position}
 use Rattle.board.specs.Board.{boardOf}
-use Rattle.rules.specs.Ply.{destinations, slide, removable, removals, slideMoves, listedMoves, afterPly, successors}
-use Rattle.plies.specs.Inner.Listing.{listedFrom}
+use Rattle.rules.specs.Ply.{destinations, slide, removable, removals, slideMoves, legalMoves, afterPly, successors}
+use Rattle.plies.specs.Inner.Listing.{legalFrom}
 use Rattle.rules.proofs.Listed.{successors-are}
 use Rattle.plies.specs.Inner.Positions.{Placed}
 use Rattle.plies.proofs.StoneMoves.{elements-removals, fromStone, moves-given, stone-given}
@@ -31,16 +31,16 @@ module _ (rings : ℕ) (position : Position) (placed : Placed rings position) (f
 
   -- of the moves of a stone, by where they go
   pub some-stone : (from tos : ℕ) → tos ≡ setFrom (destinations rings board from)
-      → any (λ to. any f (slideMoves rule rings board from to)) (elements 32 tos) ≡ any f (listedFrom rings board from (destinations rings board from))
+      → any (λ to. any f (slideMoves rule rings board from to)) (elements 32 tos) ≡ any f (legalFrom rings board from (destinations rings board from))
   some-stone from tos e =
       sym (any-each f (λ to. slideMoves rule rings board from to) (elements 32 tos)) ∙ ap (any f) (stone-given rings position placed from tos e)
 
   -- of all moves, by their stones
-  pub some-move : any (λ from. any f (listedFrom rings board from (destinations rings board from))) (elements 32 (position .mover)) ≡ any f
-      (listedMoves rings board)
+  pub some-move : any (λ from. any f (legalFrom rings board from (destinations rings board from))) (elements 32 (position .mover)) ≡ any f
+      (legalMoves rings board)
   some-move = sym (ap (any f) (moves-given rings position placed) ∙ any-each f (fromStone rings position placed) (elements 32 (position .mover)))
 
 -- some successor passes where some move leads to one
 pub some-successor-is : (f : List ℕ → Bool) (rings : ℕ) (b : List ℕ)
-    → any (λ n. f (afterPly b n)) (listedMoves rings b) ≡ any f (successors rule rings b)
-some-successor-is f rings b = sym (ap (any f) (successors-are rule rings b) ∙ any-map f (λ n. afterPly b n) (listedMoves rings b))
+    → any (λ n. f (afterPly b n)) (legalMoves rings b) ≡ any f (successors rule rings b)
+some-successor-is f rings b = sym (ap (any f) (successors-are rule rings b) ∙ any-map f (λ n. afterPly b n) (legalMoves rings b))

@@ -12,7 +12,7 @@ use Rattle.board.specs.declared.Position.{Position}
 use Rattle.board.specs.Board.{count, positionOf, boardOf, OnBoard}
 use Rattle.board.proofs.Sides.{board-position, mover-stones, opponent-stones, on-board}
 use Rattle.ranking.specs.Rank.{rank}
-use Rattle.rules.specs.Ply.{removable, listedMoves, afterPly}
+use Rattle.rules.specs.Ply.{removable, legalMoves, afterPly}
 use Rattle.rules.proofs.Listed.{removable-takes}
 use Rattle.rules.proofs.Leads.{ply-leads}
 use Rattle.plies.specs.Inner.Positions.{Placed}
@@ -27,7 +27,7 @@ pub record ShowsBoard (rings : ℕ) (b : List ℕ) (p : Position) : Type 0 where
   pub mover : members (p .mover) 32 ≡ count 1 b
   pub opponent : members (p .opponent) 32 ≡ count 2 b
   pub rank-back : rank (boardOf (length b) p) ≡ rank b
-  pub moves-back : listedMoves rings (boardOf (8 * rings) p) ≡ listedMoves rings b
+  pub moves-back : legalMoves rings (boardOf (8 * rings) p) ≡ legalMoves rings b
 
 module _ (rings : ℕ) (b : List ℕ) (w : Accepted rings b) where
   pub position-back : boardOf (8 * rings) (positionOf b) ≡ b
@@ -44,11 +44,11 @@ module _ (rings : ℕ) (b : List ℕ) (w : Accepted rings b) where
         mover = mover-stones b p e (few-points rings b w);
         opponent = opponent-stones b p e (few-points rings b w);
         rank-back = ap (λ (q : Position). rank (boardOf (length b) q)) e ∙ ap rank (board-position b (w .values));
-        moves-back = ap (listedMoves rings) f;
+        moves-back = ap (legalMoves rings) f;
       }
 
   -- the board after a listed move
-  pub after-back : (move : ℕ) → member move (listedMoves rings b) ≡ true → boardOf (8 * rings) (positionOf (afterPly b move)) ≡ afterPly b move
+  pub after-back : (move : ℕ) → member move (legalMoves rings b) ≡ true → boardOf (8 * rings) (positionOf (afterPly b move)) ≡ afterPly b move
   after-back move e =
-      let l = ply-leads (λ n c. removable n c) removable-takes rings (w .rings-high) b (w .values) (w .points) move (member-is move (listedMoves rings b) e) in
+      let l = ply-leads (λ n c. removable n c) removable-takes rings (w .rings-high) b (w .values) (w .points) move (member-is move (legalMoves rings b) e) in
       board-back rings (w .rings-high) (afterPly b move) (l .values) (l .points ∙ w .points)

@@ -8,7 +8,7 @@ ghost use Rattle.board.specs.Board.{count, boardOf};
 ghost use Rattle.sizes.specs.Size.{size};
 ghost use Rattle.sizes.specs.Inner.Binomial.{BinomialTable};
 ghost use Rattle.ranking.specs.Rank.{rank};
-ghost use Rattle.rules.specs.Ply.{afterPly, listedMoves};
+ghost use Rattle.rules.specs.Ply.{afterPly, legalMoves};
 ghost use Rattle.plies.specs.Inner.Positions.{Placed};
 ghost use Rattle.probing.specs.Inner.Probes.{probe};
 ghost use Rattle.probing.specs.Inner.Conditions.{Probing, AfterPly};
@@ -62,7 +62,7 @@ pub fn entry_after_move(
     number: usize,
 ) -> u16
     requires { ⌜ Probing (now binomials) (length (now tablebase)) rings starts position ⌝ }
-    requires { ⌜ member number (listedMoves rings (boardOf (8 * rings) position)) ≡ true ⌝ }
+    requires { ⌜ member number (legalMoves rings (boardOf (8 * rings) position)) ≡ true ⌝ }
     ensures { λ r. ⌜ r ≡ probe (now (tablebase .entry)) (starts .same) (starts .fewer) (count 2 (boardOf (8 * rings) position)) (afterPly (boardOf
         (8 * rings) position) number) ⌝ }
 {

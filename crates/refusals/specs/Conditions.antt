@@ -8,7 +8,7 @@ use Rattle.lists.specs.Lists.{member, isEmpty}
 use Rattle.board.specs.Board.{count}
 use Rattle.sizes.specs.Size.{size}
 use Rattle.layout.specs.Layout.{tablebaseLength}
-use Rattle.rules.specs.Ply.{listedMoves}
+use Rattle.rules.specs.Ply.{legalMoves}
 use Rattle.frames.specs.Frame.{frameWrong, frameLength, ringsIn, boardIn}
 use Rattle.outcomes.specs.Places.{entryAt, isVoid, successorVoid, lowerVoid}
 use Rattle.refusals.specs.Refusals.{Pick, pick, wrongFrame, wrongRings, wrongLength, wrongValue, wrongCounts}
@@ -65,11 +65,11 @@ rankWrong points m o r = leb (size points m o) r
 
 -- 8: not a listed move
 abbrev pub moveWrong : ℕ → List ℕ → ℕ → Bool
-moveWrong rings b move = not (member move (listedMoves rings b))
+moveWrong rings b move = not (member move (legalMoves rings b))
 
 -- 9: best move sought, mover blocked
 abbrev pub moverBlocked : ℕ → List ℕ → Bool
-moverBlocked rings b = isEmpty (listedMoves rings b)
+moverBlocked rings b = isEmpty (legalMoves rings b)
 
 -- what every call picks for rings and a board
 abbrev pub boardPicks : ℕ → List ℕ → List Pick

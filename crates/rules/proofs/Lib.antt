@@ -1,5 +1,6 @@
 pub mod Boards
 pub mod Bound
+pub mod CapturesFirst
 pub mod Found
 pub mod Jumps
 pub mod Leads

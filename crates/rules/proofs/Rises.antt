@@ -1,5 +1,4 @@
--- "Moves are listed by rising number" (document 01): for any rule of removal that names opposing stones by rising number. So no move is listed
--- twice. Assumes nothing.
+-- The moves of a board rise, for any rule of removal that names opposing stones by rising number. Assumes nothing.
 use mathlib.Core.Path.{_≡_, refl, sym, subst}
 use mathlib.Core.Bool.{Bool, true, false}
 use mathlib.Core.List.{List, [], _∷_, List·Memᴰ}

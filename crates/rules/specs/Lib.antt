@@ -1,2 +1,3 @@
+pub mod MoveList
 pub mod Ply
 pub mod Predecessors

@@ -66,13 +66,13 @@ slideMoves rule rings b from to = map (λ removed. moveNumber from to removed) (
 abbrev pub stoneMoves : (ℕ → List ℕ → List ℕ) → ℕ → List ℕ → ℕ → List ℕ → List ℕ
 stoneMoves rule rings b from tos = each (λ to. slideMoves rule rings b from to) tos
 
--- the plies of a board as move numbers: "Moves are listed by rising number"
+-- the plies of a board as move numbers, by rising number
 unfoldable pub moves : (ℕ → List ℕ → List ℕ) → ℕ → List ℕ → List ℕ
 moves rule rings b = each (λ from. stoneMoves rule rings b from (destinations rings b from)) (holding rings b 1)
 
--- by document 01's rule of removal
-abbrev pub listedMoves : ℕ → List ℕ → List ℕ
-listedMoves rings b = moves (λ n c. removable n c) rings b
+-- the legal moves: by document 01's rule of removal
+abbrev pub legalMoves : ℕ → List ℕ → List ℕ
+legalMoves rings b = moves (λ n c. removable n c) rings b
 
 -- the stone at a point is taken away, if any is removed
 unfoldable pub remove : List ℕ → ℕ → List ℕ

@@ -18,10 +18,10 @@ abbrev pub given : (ℕ → List ℕ) → ℕ → List ℕ
 given f s = each f (elements 32 s)
 
 module _ (f : ℕ → List ℕ) where
-  given-apart : (left p rest : ℕ) → Taken left p rest → given f left ≡ f p ++ given f rest
+  pub given-apart : (left p rest : ℕ) → Taken left p rest → given f left ≡ f p ++ given f rest
   given-apart left p rest t = ap (each f) (t .apart)
 
-  given-none : given f 0 ≡ []
+  pub given-none : given f 0 ≡ []
   given-none = ap (each f) (elements-none 32)
 
   -- n of the whole are counted

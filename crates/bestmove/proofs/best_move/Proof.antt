@@ -8,7 +8,7 @@ use lib.Seq.{sets, length-sets}
 use Rattle.lists.proofs.Writing.{sets-start}
 use Rattle.board.specs.Board.{boardOf}
 use Rattle.board.proofs.Sides.{length-board, board-values}
-use Rattle.rules.specs.Ply.{listedMoves}
+use Rattle.rules.specs.Ply.{legalMoves}
 use Rattle.rules.proofs.Bound.{moves-bound}
 use borrow.Author.Needs.{needs}
 use Rattle.bestmove.proofs.best_move.Statement.{statement}
@@ -16,7 +16,7 @@ use Rattle.bestmove.proofs.best_move.Tie as tie
 
 -- the moves
 abbrev listed : tie.Start → List ℕ
-listed c = listedMoves (c .args .rings) (boardOf (8 * c .args .rings) (c .args .position))
+listed c = legalMoves (c .args .rings) (boardOf (8 * c .args .rings) (c .args .position))
 
 -- the list is long enough
 enough : (c : tie.Start) → length (listed c) ≤ 324

@@ -8,7 +8,7 @@ use lib.ListN.{length}
 use Rattle.lists.specs.Lists.{any}
 use Rattle.board.specs.declared.Position.{Position}
 use Rattle.board.specs.Board.{count, boardOf}
-use Rattle.rules.specs.Ply.{removable, listedMoves, successors}
+use Rattle.rules.specs.Ply.{removable, legalMoves, successors}
 use Rattle.game.specs.Game.{voidEntry}
 use Rattle.masks.specs.Inner.Masks.{Masks}
 use Rattle.tables.specs.declared.Starts.{Starts}
@@ -24,7 +24,7 @@ pub record NoneVoid (tablebase lent : List ℕ) (rings : ℕ) (starts : Starts) 
 -- a position that has a move, and no more than the list has room for
 pub record Choosing (rings : ℕ) (lent : List ℕ) (position : Position) : Type 0 where
   pub masks : Masks rings lent
-  pub some : 1 ≤ length (listedMoves rings (boardOf (8 * rings) position))
+  pub some : 1 ≤ length (legalMoves rings (boardOf (8 * rings) position))
   pub mover-most : count 1 (boardOf (8 * rings) position) ≤ 9
   pub opponent-least : 1 ≤ count 2 (boardOf (8 * rings) position)
   pub opponent-most : count 2 (boardOf (8 * rings) position) ≤ 9

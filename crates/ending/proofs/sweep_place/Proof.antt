@@ -5,7 +5,7 @@ use Prim.Native.Nat.{ℕ, _*_}
 use Rattle.lists.specs.Lists.{isEmpty}
 use Rattle.board.specs.Board.{boardOf}
 use Rattle.ranking.specs.Unrank.{unrank}
-use Rattle.rules.specs.Ply.{listedMoves}
+use Rattle.rules.specs.Ply.{legalMoves}
 use Rattle.plies.specs.Inner.Positions.{Placed}
 use Rattle.outcomes.specs.Whole.{next}
 use Rattle.seeking.proofs.Positions.{placed-at}
@@ -17,7 +17,7 @@ use Rattle.ending.proofs.sweep_place.Tie as tie
 -- the position of the rank, and that its board has a move exactly where it has a successor
 found : (s : tie.Start)
     → Placed (s .args .rings) (s .args .position)
-    × (isEmpty (listedMoves (s .args .rings) (boardOf (8 * s .args .rings) (s .args .position)))
+    × (isEmpty (legalMoves (s .args .rings) (boardOf (8 * s .args .rings) (s .args .position)))
     ≡ isEmpty (next (s .args .rings) (unrank (8 * s .args .rings) (s .args .table .mover) (s .args .table .opponent) (s .args .r))))
 found s =
     let a = s .args in

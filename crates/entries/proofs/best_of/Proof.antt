@@ -8,7 +8,7 @@ use lib.ListN.{length}
 use borrow.Author.Needs.{needs}
 use Rattle.lists.specs.Lists.{isEmpty}
 use Rattle.board.specs.Board.{boardOf}
-use Rattle.rules.specs.Ply.{listedMoves}
+use Rattle.rules.specs.Ply.{legalMoves}
 use Rattle.outcomes.specs.Places.{successorVoid}
 use Rattle.probing.specs.Inner.Conditions.{Probing}
 use Rattle.answers.specs.Answers.{accepted}
@@ -28,7 +28,7 @@ starts : (c : tie.After-starts-of)
 starts c = record { same-is = c .starts-of .ensures .0; fewer-is = c .starts-of .ensures .1 }
 
 -- the mover has a move, and the successors can be read
-some : (c : tie.After-starts-of) → isEmpty (listedMoves (started c .args .rings) (board (started c))) ≡ false
+some : (c : tie.After-starts-of) → isEmpty (legalMoves (started c .args .rings) (board (started c))) ≡ false
 some c = sym (c .before .before .blocked .ensures) ∙ c .before .if1 .left
 
 probed : (c : tie.After-starts-of)

@@ -3,7 +3,7 @@ use mathlib.Core.Bool.{cond}
 use mathlib.Core.List.{List, [], _∷_}
 use Prim.Native.Nat.{ℕ}
 use Rattle.lists.specs.Lists.{isEmpty}
-use Rattle.rules.specs.Ply.{listedMoves}
+use Rattle.rules.specs.Ply.{legalMoves}
 use Rattle.outcomes.specs.Places.{successorEntry, successorVoid}
 use Rattle.answers.specs.Answers.{Answer, accepted, refused, answer}
 use Rattle.entries.specs.declared.Choice.{Choice}
@@ -19,5 +19,5 @@ choice (Move number entry) = accepted (number ∷ entry ∷ [])
 -- the choice at a board: the best move "with the entry of the successor it leads to"
 unfoldable pub choiceAt : ℕ → ℕ → List ℕ → List ℕ → Answer
 choiceAt rings k tablebase b =
-    answer (cond (isEmpty (listedMoves rings b)) 9 (cond (successorVoid rings k tablebase b) 12 0))
+    answer (cond (isEmpty (legalMoves rings b)) 9 (cond (successorVoid rings k tablebase b) 12 0))
     (bestListed rings k tablebase b ∷ successorEntry rings k tablebase (bestSuccessor rings k tablebase b) ∷ [])

@@ -12,7 +12,7 @@ use Rattle.board.proofs.Sides.{length-board}
 use Rattle.sizes.specs.Size.{size}
 use Rattle.ranking.specs.Rank.{rank}
 use Rattle.ranking.proofs.Inverse.{rank-low}
-use Rattle.rules.specs.Ply.{listedMoves, afterPly}
+use Rattle.rules.specs.Ply.{legalMoves, afterPly}
 use Rattle.making.proofs.After.{after-leads}
 use Rattle.asking.specs.Inner.Keys.{asked}
 use Rattle.asking.specs.Inner.Questions.{entryAsked}
@@ -33,7 +33,7 @@ rank-at-requires c κs =
 
 -- the move without a removal is listed
 listed : (c : tie.Then1)
-    → member (c .before .before .args .jump .slide + 31) (listedMoves (c .before .before .args .rings)
+    → member (c .before .before .args .jump .slide + 31) (legalMoves (c .before .before .args .rings)
     (boardOf (8 * c .before .before .args .rings) (c .before .before .args .position))) ≡ true
 listed c =
     let s = c .before .before in

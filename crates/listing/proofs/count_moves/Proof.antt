@@ -1,35 +1,43 @@
 -- `listing::count_moves` meets its contract. Assumes nothing.
 use mathlib.Core.Path.{_≡_, sym, ap, _∙_}
+use mathlib.Core.Bool.{not}
+use mathlib.Core.List.{List}
 use Prim.Native.Nat.{ℕ, _*_}
 use native.Mathlib.Omega.{arith}
 use lib.ListN.{length}
-use Rattle.sets.specs.Sets.{bit}
+use Rattle.sets.specs.Sets.{bit, elements}
 use Rattle.sets.proofs.Elements.{bit-low}
 use Rattle.sets.proofs.Passing.{Counted, counted-none, counted-more, counted-all}
 use Rattle.board.specs.Board.{boardOf}
 use Rattle.rules.specs.Ply.{destinations, removable, stoneMoves}
+use Rattle.rules.specs.MoveList.{isCapture, captures, others}
 use Rattle.plies.proofs.OnPositions.{mover-small}
-use Rattle.plies.proofs.StoneMoves.{destinations-vacant, moves-given, stone-given, mover-fits}
-use Rattle.listing.proofs.MoveCounts.{moves-small}
+use Rattle.plies.proofs.StoneMoves.{destinations-vacant, stone-given, mover-fits}
+use Rattle.listing.proofs.MoveCounts.{moves-kept, moves-few}
 use Rattle.listing.proofs.count_moves.Statement.{statement}
 use Rattle.listing.proofs.count_moves.Tie as tie
 
 abbrev Inv-loop : tie.InvT-loop
-Inv-loop rings masks position n₀ left₀ n left =
-    Counted (λ from. stoneMoves (λ m b. removable m b) rings (boardOf (8 * rings) position) from
-    (destinations rings (boardOf (8 * rings) position) from)) (position .mover) n left
+Inv-loop rings masks position captures₀ others₀ left₀ n k left =
+    Counted (λ from. captures (stoneMoves (λ m b. removable m b) rings (boardOf (8 * rings) position) from
+    (destinations rings (boardOf (8 * rings) position) from))) (position .mover) n left
+    × Counted (λ from. others (stoneMoves (λ m b. removable m b) rings (boardOf (8 * rings) position) from
+    (destinations rings (boardOf (8 * rings) position) from))) (position .mover) k left
 
 abbrev μ-loop : tie.MeasureT-loop
-μ-loop rings masks position n₀ left₀ n left = left
+μ-loop rings masks position captures₀ others₀ left₀ n k left = left
 
 -- it is one of the mover's
 own : (c : tie.After-take-lowest Inv-loop μ-loop) → bit (c .before .before .before .args .position .mover) (c .take-lowest .result .lowest) ≡ 1
 own c =
     let x = c .before .before in
-    x .loop .inv .among (c .take-lowest .result .lowest) (c .take-lowest .ensures .member)
+    x .loop .inv .0 .among (c .take-lowest .result .lowest) (c .take-lowest .ensures .member)
 
 loop-holds : tie.Need-loop-holds Inv-loop μ-loop
-loop-holds c = counted-none _ (c .args .position .mover) (mover-fits (c .args .rings) (c .args .position) (c .pre .placed))
+loop-holds c =
+    let p = c .args .position in
+    let h = mover-fits (c .args .rings) p (c .pre .placed) in
+    (counted-none _ (p .mover) h, counted-none _ (p .mover) h)
 
 take-lowest-requires : tie.Need-take-lowest-requires Inv-loop μ-loop
 take-lowest-requires c κs = c .loop-test .taken
@@ -50,30 +58,63 @@ count-stone-requires c κs =
           (sym (ap (λ (x : ℕ). bit x to) (c .destinations .ensures)) ∙ e),
     )
 
-add-n : tie.Need-add-n Inv-loop μ-loop
-add-n c =
-    let x = c .before .before .before .before in
-    omega (arith, x .loop .inv .total, moves-small (x .before .args .rings) (x .before .args .position) (x .before .pre .placed), c .count-stone .ensures .1)
-
-loop-less : tie.Need-loop-less Inv-loop μ-loop
-loop-less c = omega (arith, c .before .before .take-lowest .ensures .less)
-
 loop-again : tie.Need-loop-again Inv-loop μ-loop
 loop-again c =
-    let t = c .before in
-    let x = t .before .before .before in
+    let d = c .before .before .before in
+    let t = d .before in
+    let x = t .before .before in
     let s = x .before in
-    counted-more _ (s .args .position .mover) (x .loop .n) (x .loop .left) (t .before .take-lowest .result .lowest) (t .before .take-lowest .result .rest) (c .count-stone .result)
-    (x .loop .inv) (t .before .take-lowest .ensures)
-    (c .count-stone .ensures .0 ∙ ap length (stone-given (s .args .rings) (s .args .position) (s .pre .placed) (t .before .take-lowest .result .lowest)
-    (t .destinations .result) (t .destinations .ensures)))
+    let p : ℕ = t .take-lowest .result .lowest in
+    let rest : ℕ = t .take-lowest .result .rest in
+    let r = c .before .before .count-stone .result in
+    let e = stone-given (s .args .rings) (s .args .position) (s .pre .placed) p (d .destinations .result) (d .destinations .ensures) in (
+      counted-more _ (s .args .position .mover) (x .loop .captures) (x .loop .left) p rest (r .captures) (x .loop .inv .0) (t .take-lowest .ensures)
+          (c .before .before .count-stone .ensures .0 .0 ∙ ap (λ (l : List ℕ). length (captures l)) e),
+      counted-more _ (s .args .position .mover) (x .loop .others) (x .loop .left) p rest (r .others) (x .loop .inv .1) (t .take-lowest .ensures)
+          (c .before .before .count-stone .ensures .1 .0 ∙ ap (λ (l : List ℕ). length (others l)) e),
+    )
+
+add-captures : tie.Need-add-captures Inv-loop μ-loop
+add-captures c =
+    let x = c .before .before .before .before .before in
+    let s = x .before in
+    omega (
+      arith,
+      x .loop .inv .0 .total,
+      c .before .count-stone .ensures .0 .1,
+      moves-few (s .args .rings) (s .args .position) (s .pre .placed) (λ m. isCapture m),
+    )
+
+add-others : tie.Need-add-others Inv-loop μ-loop
+add-others c =
+    let x = c .before .before .before .before .before .before in
+    let s = x .before in
+    omega (
+      arith,
+      x .loop .inv .1 .total,
+      c .before .before .count-stone .ensures .1 .1,
+      moves-few (s .args .rings) (s .args .position) (s .pre .placed) (λ m. not (isCapture m)),
+    )
+
+loop-less : tie.Need-loop-less Inv-loop μ-loop
+loop-less c = omega (arith, c .before .before .before .before .take-lowest .ensures .less)
 
 returns : tie.Need-returns Inv-loop μ-loop
 returns c =
     let x = c .before in
     let s = x .before in
-    counted-all _ (s .args .position .mover) (x .loop .n) (x .loop .left) (x .loop .inv) (c .loop-test .left)
-    ∙ sym (ap length (moves-given (s .args .rings) (s .args .position) (s .pre .placed)))
+    let p = s .args .position in
+    let e = counted-all _ (p .mover) (x .loop .captures) (x .loop .left) (x .loop .inv .0) (c .loop-test .left) in
+    let d = counted-all _ (p .mover) (x .loop .others) (x .loop .left) (x .loop .inv .1) (c .loop-test .left) in (
+      (
+        e ∙ ap length (moves-kept (s .args .rings) p (s .pre .placed) (λ m. isCapture m)),
+        omega (arith, e, moves-few (s .args .rings) p (s .pre .placed) (λ m. isCapture m)),
+      ),
+      (
+        d ∙ ap length (moves-kept (s .args .rings) p (s .pre .placed) (λ m. not (isCapture m))),
+        omega (arith, d, moves-few (s .args .rings) p (s .pre .placed) (λ m. not (isCapture m))),
+      ),
+    )
 
 pub count-moves-spec : {M : Type 1} → statement M
 count-moves-spec =
@@ -85,7 +126,8 @@ count-moves-spec =
     take-lowest-requires
     destinations-requires
     count-stone-requires
-    add-n
+    add-captures
+    add-others
     loop-less
     loop-again
     returns)

@@ -1,43 +1,37 @@
 -- `listing::count_stone` meets its contract. Assumes nothing.
 use mathlib.Core.Path.{_≡_, sym, ap, _∙_}
+use mathlib.Core.Bool.{Bool, true, false, not}
+use mir.Val.{boolByte}
 use mathlib.Core.List.{List}
 use Prim.Native.Nat.{ℕ, _*_, _≤_}
 use native.Mathlib.Omega.{arith}
-use lib.ListN.{length, length-map}
+use lib.ListN.{length}
+use borrow.Author.Needs.{needs}
 use Rattle.sets.specs.Sets.{members}
 use Rattle.sets.proofs.Laws.{members-le}
 use Rattle.sets.proofs.Passing.{Counted, counted-none, counted-more, counted-all}
 use Rattle.board.specs.Board.{boardOf}
-use Rattle.rules.specs.Ply.{slide, removable, removals, moveNumber, slideMoves}
-use Rattle.listing.proofs.MoveCounts.{count-removals, stone-le}
+use Rattle.rules.specs.Ply.{removable, slideMoves}
+use Rattle.rules.specs.MoveList.{isCapture, captures, others}
+use Rattle.listing.proofs.MoveCounts.{stone-kept, stone-few}
+use Rattle.listing.proofs.SlideMoves.{captures-count, others-count}
 use Rattle.listing.proofs.count_stone.Statement.{statement}
 use Rattle.listing.proofs.count_stone.Tie as tie
 
+byte-le : (t : Bool) → boolByte t ≤ 1
+byte-le true = omega arith
+byte-le false = omega arith
+
 abbrev Inv-loop : tie.InvT-loop
-Inv-loop rings masks position from tos n₀ left₀ n left = Counted
-    (λ to. slideMoves (λ m b. removable m b) rings (boardOf (8 * rings) position) from to) tos n left
+Inv-loop rings masks position from tos captures₀ others₀ left₀ n k left =
+    Counted (λ to. captures (slideMoves (λ m b. removable m b) rings (boardOf (8 * rings) position) from to)) tos n left
+    × Counted (λ to. others (slideMoves (λ m b. removable m b) rings (boardOf (8 * rings) position) from to)) tos k left
 
 abbrev μ-loop : tie.MeasureT-loop
-μ-loop rings masks position from tos n₀ left₀ n left = left
-
--- the moves to that point
-found : (c : tie.After-count Inv-loop μ-loop)
-    → (c .count .result ≡ length (slideMoves (λ m b. removable m b) (c .before .before .before .before .before .args .rings)
-    (boardOf (8 * c .before .before .before .before .before .args .rings) (c .before .before .before .before .before .args .position))
-    (c .before .before .before .before .before .args .from) (c .before .before .take-lowest .result .lowest))) × (c .count .result ≤ 32)
-found c =
-    let s = c .before .before .before .before .before in
-    let a = s .args in
-    let to : ℕ = c .before .before .take-lowest .result .lowest in
-    let b : List ℕ = slide (boardOf (8 * a .rings) (a .position)) (a .from) to in
-    let e = c .count .ensures in (
-      e ∙ ap (λ (x : ℕ). members x 32) (c .before .removals .ensures) ∙ count-removals (a .rings) (s .pre .0 .placed .small) b to
-          ∙ sym (length-map (removals (λ m b. removable m b) (a .rings) b to) (λ r. moveNumber (a .from) to r)),
-      omega (arith, e, members-le (c .before .removals .result) 32),
-    )
+μ-loop rings masks position from tos captures₀ others₀ left₀ n k left = left
 
 loop-holds : tie.Need-loop-holds Inv-loop μ-loop
-loop-holds c = counted-none _ (c .args .tos) (c .fits .tos .fits)
+loop-holds c = (counted-none _ (c .args .tos) (c .fits .tos .fits), counted-none _ (c .args .tos) (c .fits .tos .fits))
 
 take-lowest-requires : tie.Need-take-lowest-requires Inv-loop μ-loop
 take-lowest-requires c κs = c .loop-test .taken
@@ -48,37 +42,106 @@ removals-requires c κs =
     let s = x .before in (
       s .pre .0,
       s .pre .1 (c .take-lowest .result .lowest)
-          (x .loop .inv .among (c .take-lowest .result .lowest) (c .take-lowest .ensures .member)),
+          (x .loop .inv .0 .among (c .take-lowest .result .lowest) (c .take-lowest .ensures .member)),
     )
 
-count-requires : tie.Need-count-requires Inv-loop μ-loop
-count-requires c κs = tt
+without-requires : tie.Need-without-requires Inv-loop μ-loop
+without-requires c κs = search needs
 
-cast-n : tie.Need-cast-n Inv-loop μ-loop
-cast-n c = omega (arith, found c .1)
+count-requires : tie.Need-count-requires Inv-loop μ-loop
+count-requires c κs = search needs
+
+cast-captures : tie.Need-cast-captures Inv-loop μ-loop
+cast-captures c = omega (arith, c .count .ensures, members-le (c .before .without .result) 32)
+
+-- the moves to that point
+found : (c : tie.After-removals Inv-loop μ-loop) → List ℕ
+found c =
+    let a = c .before .before .before .before .args in
+    slideMoves (λ m b. removable m b) (a .rings) (boardOf (8 * a .rings) (a .position)) (a .from) (c .before .take-lowest .result .lowest)
+
+captures-found : (c : tie.After-count Inv-loop μ-loop) → c .count .result ≡ length (captures (found (c .before .before)))
+unfolding found
+captures-found c =
+    let r = c .before .before in
+    let s = r .before .before .before .before in
+    let a = s .args in
+    c .count .ensures ∙ ap (λ (x : ℕ). members x 32) (c .before .without .ensures)
+    ∙ captures-count (a .rings) (s .pre .0 .placed .small) (boardOf (8 * a .rings) (a .position)) (a .from) (r .before .take-lowest .result .lowest)
+    (r .removals .result) (r .removals .ensures)
+
+others-found : (c : tie.After-has Inv-loop μ-loop) → boolByte (c .has .result) ≡ length (others (found (c .before .before .before)))
+unfolding found
+others-found c =
+    let r = c .before .before .before in
+    let s = r .before .before .before .before in
+    let a = s .args in
+    others-count (a .rings) (s .pre .0 .placed .small) (boardOf (8 * a .rings) (a .position)) (a .from) (r .before .take-lowest .result .lowest)
+    (r .removals .result) (r .removals .ensures) (c .has .result) (c .has .ensures)
 
 loop-again : tie.Need-loop-again Inv-loop μ-loop
+unfolding found
 loop-again c =
-    let x = c .before .before .before .before in
-    counted-more _ (x .before .args .tos) (x .loop .n) (x .loop .left) (c .before .before .take-lowest .result .lowest) (c .before .before .take-lowest .result .rest)
-    (c .count .result)
-    (x .loop .inv) (c .before .before .take-lowest .ensures) (found c .0)
-
-add-n : tie.Need-add-n Inv-loop μ-loop
-add-n c =
-    let x = c .before .before .before .before in
+    let t = c .before .before .before .before in
+    let x = t .before .before in
     let a = x .before .args in
-    omega (arith, found c .1, x .loop .inv .total, stone-le (a .rings) (x .before .pre .0 .placed .small) (boardOf (8 * a .rings) (a .position)) (a .from) (a .tos))
+    let p : ℕ = t .take-lowest .result .lowest in
+    let rest : ℕ = t .take-lowest .result .rest in (
+      counted-more _ (a .tos) (x .loop .captures) (x .loop .left) p rest (c .before .count .result) (x .loop .inv .0) (t .take-lowest .ensures)
+          (captures-found (c .before)),
+      counted-more _ (a .tos) (x .loop .others) (x .loop .left) p rest _ (x .loop .inv .1) (t .take-lowest .ensures) (others-found c),
+    )
+
+add-captures : tie.Need-add-captures Inv-loop μ-loop
+add-captures c =
+    let x = c .before .before .before .before .before in
+    let a = x .before .args in
+    omega (
+      arith,
+      x .loop .inv .0 .total,
+      c .count .ensures,
+      members-le (c .before .without .result) 32,
+      stone-few (a .rings) (x .before .pre .0 .placed .small) (boardOf (8 * a .rings) (a .position)) (a .from) (λ m. isCapture m) (a .tos),
+    )
+
+has-requires : tie.Need-has-requires Inv-loop μ-loop
+has-requires c κs = search needs
+
+cast-others : tie.Need-cast-others Inv-loop μ-loop
+cast-others c = search needs
+
+add-others : tie.Need-add-others Inv-loop μ-loop
+add-others c =
+    let x = c .before .before .before .before .before .before in
+    let a = x .before .args in
+    omega (
+      arith,
+      x .loop .inv .1 .total,
+      byte-le (c .has .result),
+      stone-few (a .rings) (x .before .pre .0 .placed .small) (boardOf (8 * a .rings) (a .position)) (a .from) (λ m. not (isCapture m)) (a .tos),
+    )
 
 loop-less : tie.Need-loop-less Inv-loop μ-loop
-loop-less c = omega (arith, c .before .before .take-lowest .ensures .less)
+loop-less c = omega (arith, c .before .before .before .before .take-lowest .ensures .less)
 
 returns : tie.Need-returns Inv-loop μ-loop
 returns c =
     let x = c .before in
-    let a = x .before .args in
-    let e = counted-all _ (a .tos) (x .loop .n) (x .loop .left) (x .loop .inv) (c .loop-test .left) in
-    (e, omega (arith, e, stone-le (a .rings) (x .before .pre .0 .placed .small) (boardOf (8 * a .rings) (a .position)) (a .from) (a .tos)))
+    let s = x .before in
+    let a = s .args in
+    let b : List ℕ = boardOf (8 * a .rings) (a .position) in
+    let e = counted-all _ (a .tos) (x .loop .captures) (x .loop .left) (x .loop .inv .0) (c .loop-test .left) in
+    let d = counted-all _ (a .tos) (x .loop .others) (x .loop .left) (x .loop .inv .1) (c .loop-test .left) in
+    let small = s .pre .0 .placed .small in (
+      (
+        e ∙ ap length (stone-kept (a .rings) small b (a .from) (λ m. isCapture m) (a .tos)),
+        omega (arith, e, stone-few (a .rings) small b (a .from) (λ m. isCapture m) (a .tos)),
+      ),
+      (
+        d ∙ ap length (stone-kept (a .rings) small b (a .from) (λ m. not (isCapture m)) (a .tos)),
+        omega (arith, d, stone-few (a .rings) small b (a .from) (λ m. not (isCapture m)) (a .tos)),
+      ),
+    )
 
 pub count-stone-spec : {M : Type 1} → statement M
 count-stone-spec =
@@ -89,9 +152,13 @@ count-stone-spec =
     loop-holds
     take-lowest-requires
     removals-requires
+    without-requires
     count-requires
-    cast-n
-    add-n
+    cast-captures
+    add-captures
+    has-requires
+    cast-others
+    add-others
     loop-less
     loop-again
     returns)

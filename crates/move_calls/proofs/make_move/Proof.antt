@@ -8,7 +8,7 @@ use lib.ListN.{length}
 use borrow.Author.Needs.{needs}
 use Rattle.lists.specs.Lists.{member}
 use Rattle.board.specs.Board.{positionOf, boardOf}
-use Rattle.rules.specs.Ply.{listedMoves, afterPly}
+use Rattle.rules.specs.Ply.{legalMoves, afterPly}
 use Rattle.refusals.specs.Refusals.{refusal}
 use Rattle.refusals.specs.Conditions.{targetPicks}
 use Rattle.move_calls.specs.MakeMoveCall.{makeMoveCall, makeMoveTarget}
@@ -45,7 +45,7 @@ shows c = board-shown _ _ (board (placing c)) _ (c .position-of .ensures)
 -- what was tested is whether the board has the move
 tested : (c : tie.After-is-move)
     → member (started (placing (testing c)) .args .number)
-    (listedMoves (started (placing (testing c)) .args .rings) (started (placing (testing c)) .args .board .now))
+    (legalMoves (started (placing (testing c)) .args .rings) (started (placing (testing c)) .args .board .now))
     ≡ c .is-move .result
 tested c = sym (c .is-move .ensures ∙ ap (member (started (placing (testing c)) .args .number)) (shows (testing c) .moves-back))
 
@@ -92,7 +92,7 @@ returns-2 c =
     let x = placing (testing m) in
     let a = started x .args in
     let b : List ℕ = a .board .now in
-    let e : member (a .number) (listedMoves (a .rings) b) ≡ true = tested m ∙ t .if2 .taken in
+    let e : member (a .number) (legalMoves (a .rings) b) ≡ true = tested m ∙ t .if2 .taken in
     let d : f .after-ply .result ≡ positionOf (afterPly b (a .number)) =
     f .after-ply .ensures ∙ ap (λ (c : List ℕ). positionOf (afterPly c (a .number))) (shows (testing m) .back) in
     written _ _ _ _ _ _

@@ -8,7 +8,7 @@ use lib.ListN.{length}
 use lib.Seq.{sets}
 use borrow.Author.Tests.{lt-ltb, le-ltb}
 use borrow.Author.Needs.{needs}
-use Rattle.rules.specs.Ply.{listedMoves}
+use Rattle.rules.specs.Ply.{legalMoves}
 use Rattle.refusals.specs.Refusals.{refusal}
 use Rattle.refusals.specs.Conditions.{boardPicks}
 use Rattle.move_calls.specs.MovesCall.{movesCall, movesList}
@@ -44,7 +44,7 @@ returns c =
     let a = c .before .before .before .before .args in
     let n = c .before .of-board .result in
     turned-back _ _ _ _ n (c .if1 .taken)
-    (short-refused (a .rings) (a .board .now) (length (a .list .now)) (length (listedMoves (a .rings) (a .board .now))) n (c .if1 .taken)
+    (short-refused (a .rings) (a .board .now) (length (a .list .now)) (length (legalMoves (a .rings) (a .board .now))) n (c .if1 .taken)
     (c .before .of-board .ensures))
 
 masks-of-requires : tie.Need-masks-of-requires
@@ -63,7 +63,7 @@ returns-2 c =
     let p = n .before .before in
     let x = placing p in
     let a = started x .args in
-    let m = length (listedMoves (a .rings) (a .board .now)) in
+    let m = length (legalMoves (a .rings) (a .board .now)) in
     let short = lt-ltb (length (a .list .now)) m (omega (arith, c .if2 .taken, n .count-moves .ensures, ap length (shows p .moves-back))) in
     turned-back _ _ _ _ 7 (λ z. absurd (omega arith))
     (sym (short-decides (a .rings) (a .board .now) (length (a .list .now)) m (passed-board x) ∙ ap (λ (t : Bool). cond t 7 0) short))
@@ -86,7 +86,7 @@ returns-3 c =
     let p = n .before .before in
     let x = placing p in
     let a = started x .args in
-    let m = length (listedMoves (a .rings) (a .board .now)) in
+    let m = length (legalMoves (a .rings) (a .board .now)) in
     let fits = le-ltb (length (a .list .now)) m (omega (arith, e .if2 .left, n .count-moves .ensures, ap length (shows p .moves-back))) in
     written _ _ _ _ _ _
     (sym (short-decides (a .rings) (a .board .now) (length (a .list .now)) m (passed-board x) ∙ ap (λ (t : Bool). cond t 7 0) fits))

@@ -4,5 +4,5 @@ use Prim.Native.Nat.{ℕ}
 use Rattle.rules.specs.Ply.{removable, stoneMoves}
 
 -- the moves of the stone at a point to any of some points
-abbrev pub listedFrom : ℕ → List ℕ → ℕ → List ℕ → List ℕ
-listedFrom rings b from tos = stoneMoves (λ n c. removable n c) rings b from tos
+abbrev pub legalFrom : ℕ → List ℕ → ℕ → List ℕ → List ℕ
+legalFrom rings b from tos = stoneMoves (λ n c. removable n c) rings b from tos

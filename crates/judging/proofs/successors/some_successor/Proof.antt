@@ -8,7 +8,7 @@ use Rattle.sets.proofs.Elements.{bit-low}
 use Rattle.sets.proofs.Passing.{Sought, sought-none, sought-more, sought-found, sought-all}
 use Rattle.board.specs.Board.{boardOf}
 use Rattle.rules.specs.Ply.{destinations, afterPly}
-use Rattle.plies.specs.Inner.Listing.{listedFrom}
+use Rattle.plies.specs.Inner.Listing.{legalFrom}
 use Rattle.plies.proofs.OnPositions.{mover-small}
 use Rattle.plies.proofs.StoneMoves.{mover-fits}
 use Rattle.plies.proofs.SomeMove.{some-move, some-successor-is}
@@ -19,7 +19,7 @@ use Rattle.judging.proofs.successors.some_successor.Tie as tie
 abbrev Inv-loop : tie.InvT-loop
 Inv-loop tablebase binomials masks rings question position left₀ left =
     Sought (λ from. any (λ m. entryAsked tablebase question (boardOf (8 * rings) position) (afterPly (boardOf (8 * rings) position) m))
-    (listedFrom rings (boardOf (8 * rings) position) from (destinations rings (boardOf (8 * rings) position) from))) (position .mover) left
+    (legalFrom rings (boardOf (8 * rings) position) from (destinations rings (boardOf (8 * rings) position) from))) (position .mover) left
 
 abbrev μ-loop : tie.MeasureT-loop
 μ-loop tablebase binomials masks rings question position left₀ left = left
