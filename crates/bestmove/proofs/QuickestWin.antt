@@ -7,7 +7,7 @@ use mathlib.Core.Logic.{_⊎_}
 use Prim.Native.Nat.{ℕ, zero, suc, _+_, _*_}
 use native.Mathlib.Omega.{arith}
 use Rattle.lists.specs.Lists.{isEmpty}
-use Rattle.lists.proofs.Members.{map-member, member-map}
+use Rattle.lists.proofs.Members.{member-map}
 use Rattle.lists.proofs.Tests.{untrue, clash, any-member, empty-none}
 use Rattle.game.specs.Game.{Seed, live, ends, won, WonIn, LostIn, Entry}
 use Rattle.game.specs.Judgement.{isLost}
@@ -21,11 +21,12 @@ use Rattle.game.proofs.Play.{best-wins, later-won}
 use Rattle.bestmove.specs.Best.{bestEntry, bestMove}
 use Rattle.bestmove.proofs.Choice.{best-listed, best-least}
 
--- a game whose plies are given by moves, and a set of positions, closed under plies, with their true entries
+-- a game whose plies are given by moves, in whatever order, and a set of positions, closed under plies, with their true entries
 module _ {Pos : Type 0} (next : Pos → List Pos) (seed : Pos → Seed) (S : Pos → Type 0)
     (closed : (p : Pos) → S p → seed p ≡ live → (q : Pos) → List·Memᴰ q (next p) → S q)
     (whole : (p : Pos) → S p → (seed p ≡ live) ⊎ (seed p ≡ ends 0))
-    (moves : Pos → List ℕ) (after : Pos → ℕ → Pos) (plies : (p : Pos) → next p ≡ map (λ m. after p m) (moves p))
+    (moves : Pos → List ℕ) (after : Pos → ℕ → Pos) (ply-of : (p q : Pos) → List·Memᴰ q (next p) → (m : ℕ) × List·Memᴰ m (moves p) × (q ≡ after p m))
+    (of-ply : (p : Pos) (m : ℕ) → List·Memᴰ m (moves p) → List·Memᴰ (after p m) (next p))
     (t : Pos → ℕ) (entries : (p : Pos) → S p → Entry next seed p (t p)) where
   abbrev best : Pos → Pos
   best p = after p (bestMove (λ m. t (after p m)) (moves p))
@@ -36,9 +37,9 @@ module _ {Pos : Type 0} (next : Pos → List Pos) (seed : Pos → Seed) (S : Pos
   -- where there is a ply, the best move is one, and leads to the best entry
   taken : (p q : Pos) → List·Memᴰ q (next p) → List·Memᴰ (best p) (next p) × (t (best p) ≡ bestEntry (judged p)) × List·Memᴰ (t q) (judged p)
   taken p q i =
-      let (m, k, e) = map-member (λ m. after p m) (moves p) (subst (λ (l : List Pos). List·Memᴰ q l) (plies p) i) in
+      let (m, k, e) = ply-of p q i in
       let s = best-listed (λ m. t (after p m)) (moves p) (sym (untrue (isEmpty (moves p)) (λ z. empty-none (moves p) z k))) in (
-        subst (λ (l : List Pos). List·Memᴰ (best p) l) (sym (plies p)) (member-map (λ m. after p m) (moves p) (s .0)),
+        of-ply p _ (s .0),
         s .1,
         subst (λ (c : Pos). List·Memᴰ (t c) (judged p)) (sym e) (member-map (λ m. t (after p m)) (moves p) k),
       )

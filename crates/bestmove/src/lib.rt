@@ -8,6 +8,7 @@ ghost use lib.ListN.{length};
 ghost use Rattle.lists.specs.Lists.{member};
 ghost use Rattle.board.specs.Board.{count, boardOf};
 ghost use Rattle.rules.specs.Ply.{legalMoves};
+ghost use Rattle.rules.specs.MoveList.{listedMoves};
 ghost use Rattle.probing.specs.Inner.Conditions.{Probing};
 ghost use Rattle.bestmove.specs.Inner.Choosing.{NoneVoid, Choosing};
 ghost use Rattle.bestmove.specs.Best.{bestEntry, bestMove};
@@ -42,7 +43,9 @@ fn worth(entry: u16) -> u32
 fn better(first: Best, second: Best) -> Best
     ensures { λ r. ⌜ r ≡ elim (ltb (worth (first .entry)) (worth (second .entry))) [ true ↦ second | false ↦ first ] ⌝ }
 {
-    if worth(first.entry) < worth(second.entry) {
+    let kept = worth(first.entry);
+    let next = worth(second.entry);
+    if kept < next {
         return second;
     }
     first
@@ -85,12 +88,12 @@ fn best_of(
     moves: &[u16],
 ) -> Best
     requires { ⌜ NoneVoid (now tablebase) (now binomials) rings starts position ⌝ }
-    requires { ⌜ (1 ≤ length (now moves)) × (now moves ≡ legalMoves rings (boardOf (8 * rings) position)) ⌝ }
+    requires { ⌜ (1 ≤ length (now moves)) × (now moves ≡ listedMoves rings (boardOf (8 * rings) position)) ⌝ }
     ensures number { λ r. ⌜ r .number ≡ bestMove (λ m. entryBy (now (tablebase .entry)) (starts .same) (starts .fewer) (boardOf (8 * rings) position) m)
-        (legalMoves rings (boardOf (8 * rings) position)) ⌝ }
+        (listedMoves rings (boardOf (8 * rings) position)) ⌝ }
     ensures entry { λ r. ⌜ r .entry ≡ bestEntry (map (λ m. entryBy (now (tablebase .entry)) (starts .same) (starts .fewer) (boardOf
         (8 * rings) position) m)
-        (legalMoves rings (boardOf (8 * rings) position))) ⌝ }
+        (listedMoves rings (boardOf (8 * rings) position))) ⌝ }
 {
     let mut best = with_entry(tablebase, binomials, rings, starts, position, moves[0]);
     let mut i = 1;
@@ -114,14 +117,15 @@ pub fn best_move(
     requires { ⌜ NoneVoid (now tablebase) (now binomials) rings starts position ⌝ }
     requires { ⌜ Choosing rings (now masks) position ⌝ }
     ensures number { λ r. ⌜ r .number ≡ bestMove (λ m. entryBy (now (tablebase .entry)) (starts .same) (starts .fewer) (boardOf (8 * rings) position) m)
-        (legalMoves rings (boardOf (8 * rings) position)) ⌝ }
+        (listedMoves rings (boardOf (8 * rings) position)) ⌝ }
     ensures entry { λ r. ⌜ r .entry ≡ bestEntry (map (λ m. entryBy (now (tablebase .entry)) (starts .same) (starts .fewer) (boardOf
         (8 * rings) position) m)
-        (legalMoves rings (boardOf (8 * rings) position))) ⌝ }
+        (listedMoves rings (boardOf (8 * rings) position))) ⌝ }
 {
+    let counts = listing::count_moves(rings, masks, position);
+    let count = counts.captures + counts.others;
     let mut list = [0u16; MOVES_MAX];
-    listing::list_moves(rings, masks, position, &mut list);
-    let count = listing::count_moves(rings, masks, position);
+    listing::list_moves(rings, masks, position, counts.captures, &mut list);
     best_of(
         tablebase,
         binomials,

@@ -16,6 +16,8 @@ use Rattle.board.specs.Board.{count, boardOf}
 use Rattle.layout.specs.Layout.{start}
 use Rattle.layout.proofs.OneToOne.{in-range}
 use Rattle.rules.specs.Ply.{removable, legalMoves, afterPly, successors}
+use Rattle.rules.specs.MoveList.{listedMoves}
+use Rattle.rules.proofs.CapturesFirst.{listed-legal, listed-empty}
 use Rattle.rules.proofs.Listed.{of-successor}
 use Rattle.game.specs.Game.{voidEntry}
 use Rattle.outcomes.specs.Places.{successorEntry, successorVoid}
@@ -57,8 +59,8 @@ module _ {lent : List ℕ} {n : ℕ} (rings k : ℕ) (p : Position) (w : InTable
   read-is : (d : List ℕ) → List·Memᴰ d (next rings b) → probe tablebase same fewer (count 2 b) d ≡ successorEntry rings k tablebase d
   read-is = probed rings k (count 1 b) (count 2 b) (w .placed .small) (w .opponent-low) b (own-table rings k b (in-tables rings k p w)) tablebase
 
-  entry-is : (m : ℕ) → List·Memᴰ m (legalMoves rings b) → entryBy tablebase same fewer b m ≡ entryAfter rings k tablebase b m
-  entry-is m i = read-is (afterPly b m) (of-successor (λ n c. removable n c) rings b m i)
+  entry-is : (m : ℕ) → List·Memᴰ m (listedMoves rings b) → entryBy tablebase same fewer b m ≡ entryAfter rings k tablebase b m
+  entry-is m i = read-is (afterPly b m) (of-successor (λ n c. removable n c) rings b m (listed-legal (legalMoves rings b) i))
 
   module _ {x y : ℕ} (s : Starting rings k b x y) where
     pub reads-of : Reads n (8 * rings) (count 1 b) (count 2 b) x y
@@ -69,18 +71,18 @@ module _ {lent : List ℕ} {n : ℕ} (rings k : ℕ) (p : Position) (w : InTable
     pub void-of : any (λ d. eqb (probe tablebase x y (count 2 b) d) voidEntry) (successors (λ n c. removable n c) rings b) ≡ successorVoid rings k tablebase b
     void-of = rw (s .same-is, s .fewer-is) (read-void rings k tablebase b (λ d. probe tablebase same fewer (count 2 b) d) read-is)
 
-    pub move-of : bestMove (λ m. entryBy tablebase x y b m) (legalMoves rings b) ≡ bestListed rings k tablebase b
+    pub move-of : bestMove (λ m. entryBy tablebase x y b m) (listedMoves rings b) ≡ bestListed rings k tablebase b
     unfolding bestListed
-    move-of = rw (s .same-is, s .fewer-is) (best-same _ _ (legalMoves rings b) entry-is)
+    move-of = rw (s .same-is, s .fewer-is) (best-same _ _ (listedMoves rings b) entry-is)
 
     -- "with the entry of the successor it leads to"
     pub entry-of : isEmpty (legalMoves rings b) ≡ false
-        → bestEntry (map (λ m. entryBy tablebase x y b m) (legalMoves rings b)) ≡ successorEntry rings k tablebase (bestSuccessor rings k tablebase b)
+        → bestEntry (map (λ m. entryBy tablebase x y b m) (listedMoves rings b)) ≡ successorEntry rings k tablebase (bestSuccessor rings k tablebase b)
     unfolding bestListed bestSuccessor
     entry-of some =
         rw (s .same-is, s .fewer-is)
-        (ap bestEntry (map-same _ _ (legalMoves rings b) entry-is)
-        ∙ sym (best-listed (λ m. entryAfter rings k tablebase b m) (legalMoves rings b) some .1))
+        (ap bestEntry (map-same _ _ (listedMoves rings b) entry-is)
+        ∙ sym (best-listed (λ m. entryAfter rings k tablebase b m) (listedMoves rings b) (listed-empty (legalMoves rings b) ∙ some) .1))
 
 -- the choice at a board, by what was found
 module _ (rings k : ℕ) (tablebase b : List ℕ) where

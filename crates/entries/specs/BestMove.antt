@@ -2,7 +2,8 @@
 -- by the successors' entries"), and the board that it leads to. Assumes nothing.
 use mathlib.Core.List.{List}
 use Prim.Native.Nat.{ℕ}
-use Rattle.rules.specs.Ply.{legalMoves, afterPly}
+use Rattle.rules.specs.MoveList.{listedMoves}
+use Rattle.rules.specs.Ply.{afterPly}
 use Rattle.outcomes.specs.Places.{successorEntry}
 use Rattle.bestmove.specs.Best.{bestMove}
 
@@ -12,7 +13,7 @@ entryAfter rings k tablebase b move = successorEntry rings k tablebase (afterPly
 
 -- "the first listed among: quickest win, else a draw, else longest loss, judged by the successors' entries"
 unfoldable pub bestListed : ℕ → ℕ → List ℕ → List ℕ → ℕ
-bestListed rings k tablebase b = bestMove (λ move. entryAfter rings k tablebase b move) (legalMoves rings b)
+bestListed rings k tablebase b = bestMove (λ move. entryAfter rings k tablebase b move) (listedMoves rings b)
 
 -- the board that it leads to
 unfoldable pub bestSuccessor : ℕ → ℕ → List ℕ → List ℕ → List ℕ

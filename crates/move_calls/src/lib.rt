@@ -6,7 +6,8 @@ ghost use Rattle.move_calls.specs.MakeMoveCall.{makeMoveCall, makeMoveTa
 use answers::Listed;
 use answers::Made;
 
-// Lists a board's moves by rising number at the start of the list; 324 places are always enough. Refusals: 1, 2, 3, 4, 7.
+// Lists a board's moves at the start of the list: those with a removal by rising number, then the others by rising number. 324 places are always
+// enough. Refusals: 1, 2, 3, 4, 7.
 pub fn moves(rings: u8, board: &[u8], list: &mut [u16]) -> Listed
     ensures answer { λ r. ⌜ listed r ≡ movesCall rings (now (board .entry)) (now (list .entry)) ⌝ }
     ensures list { λ _. ⌜ now (list .exit) ≡ movesList rings (now (board .entry)) (now (list .entry)) ⌝ }
@@ -17,11 +18,12 @@ pub fn moves(rings: u8, board: &[u8], list: &mut [u16]) -> Listed
     }
     let masks = masks::masks_of(rings as usize);
     let position = board::position_of(board);
-    let count = listing::count_moves(rings as usize, &masks, position);
+    let counts = listing::count_moves(rings as usize, &masks, position);
+    let count = counts.captures + counts.others;
     if list.len() < count {
         return Listed::Refused(refusals::SHORT_TARGET);
     }
-    listing::list_moves(rings as usize, &masks, position, list);
+    listing::list_moves(rings as usize, &masks, position, counts.captures, list);
     Listed::Count(count)
 }
 

@@ -13,8 +13,10 @@ use Rattle.lists.specs.Lists.{member}
 use Rattle.lists.proofs.Tests.{member-is}
 use Rattle.board.specs.Board.{count}
 use Rattle.board.proofs.Counts.{count-all}
+use Rattle.rules.specs.MoveList.{listedMoves}
 use Rattle.rules.specs.Ply.{removable, legalMoves, removedOf, afterPly}
-use Rattle.rules.proofs.Bound.{moves-bound}
+use Rattle.rules.proofs.Bound.{listed-bound}
+use Rattle.rules.proofs.CapturesFirst.{member-listed}
 use Rattle.rules.proofs.Listed.{removable-takes}
 use Rattle.rules.proofs.Leads.{MoverLeft, ply-leads}
 use Rattle.refusals.specs.Refusals.{refusal}
@@ -32,20 +34,23 @@ module _ (rings : ℕ) (b : List ℕ) (e : refusal (boardPicks rings b) ≡ 0) w
 
   -- what `moves` answers and lists where there are 324 places
   pub list-enough : (old : List ℕ) → 324 ≤ length old
-      → (movesCall rings b old ≡ accepted (length (legalMoves rings b) ∷ [])) × (movesList rings b old ≡ sets old 0 (legalMoves rings b))
+      → (movesCall rings b old ≡ accepted (length (listedMoves rings b) ∷ [])) × (movesList rings b old ≡ sets old 0 (listedMoves rings b))
   unfolding movesCall movesList
   list-enough old room =
       let w = board in
       let c = w .counted in
-      let few = moves-bound rings (w .rings-high) b (w .points) (w .values) (c .mover-high) (omega (arith, c .opponent-low)) (c .opponent-high) in
-      let n : ℕ = length (legalMoves rings b) in
+      let few = listed-bound rings (w .rings-high) b (w .points) (w .values) (c .mover-high) (omega (arith, c .opponent-low)) (c .opponent-high) in
+      let n : ℕ = length (listedMoves rings b) in
       let z : 0 ≡ refusal (shortPicks rings b (length old) n) =
       sym (short-decides rings b (length old) n (sym e) ∙ ap (λ (t : Bool). cond t 7 0) (le-ltb (length old) n (omega (arith, few, room)))) in (
         sym (answer-accepted (refusal (shortPicks rings b (length old) n)) (n ∷ []) z),
-        sym (target-written (refusal (shortPicks rings b (length old) n)) (sets old 0 (legalMoves rings b)) old z),
+        sym (target-written (refusal (shortPicks rings b (length old) n)) (sets old 0 (listedMoves rings b)) old z),
       )
 
-  module _ (move : ℕ) (listed : member move (legalMoves rings b) ≡ true) where
+  module _ (move : ℕ) (listed : member move (listedMoves rings b) ≡ true) where
+    legal : member move (legalMoves rings b) ≡ true
+    legal = sym (member-listed (legalMoves rings b) move) ∙ listed
+
     -- what `make_move` answers and writes for a listed move
     pub listed-made : (old : List ℕ) → length old ≡ 8 * rings
         → (makeMoveCall rings b move old ≡ accepted []) × (makeMoveTarget rings b move old ≡ afterPly b move)
@@ -54,7 +59,7 @@ module _ (rings : ℕ) (b : List ℕ) (e : refusal (boardPicks rings b) ≡ 0) w
         let t : 0 ≡ refusal (targetPicks rings b (length old)) =
         sym (target-decides rings b (length old) (sym e) ∙ ap (λ (x : Bool). cond x 6 0) (length-fine rings (length old) room)) in
         let z : 0 ≡ refusal (movePicks rings b move (length old)) =
-        sym (move-decides rings b (length old) move t ∙ ap (λ (x : Bool). cond (not x) 8 0) listed) in (
+        sym (move-decides rings b (length old) move t ∙ ap (λ (x : Bool). cond (not x) 8 0) legal) in (
           sym (answer-accepted (refusal (movePicks rings b move (length old))) [] z),
           sym (target-written (refusal (movePicks rings b move (length old))) (afterPly b move) old z),
         )
@@ -65,7 +70,7 @@ module _ (rings : ℕ) (b : List ℕ) (e : refusal (boardPicks rings b) ≡ 0) w
         let w = board in
         let c = w .counted in
         let l = ply-leads (λ n d. removable n d) removable-takes rings (w .rings-high) b (w .values) (w .points) move
-        (member-is move (legalMoves rings b) listed) in
+        (member-is move (legalMoves rings b) legal) in
         let p = l .points ∙ w .points in
         let counted : RightCounts (8 * rings) (count 1 (afterPly b move)) (count 2 (afterPly b move)) = record {
           mover-low = three;

@@ -3,13 +3,15 @@
 -- n, `best_move` accepts, and `make_move` makes what it answers. Assumes nothing.
 use mathlib.Core.Path.{_≡_, sym, ap, subst, _∙_}
 use mathlib.Core.Bool.{true, false}
-use mathlib.Core.List.{List, [], _∷_}
+use mathlib.Core.List.{List, [], _∷_, List·Memᴰ}
 use Prim.Native.Nat.{ℕ, _+_, _*_, _≤_, _<_, _%_}
 use native.Mathlib.Omega.{arith}
 use lib.ListN.{length, getD}
 use Rattle.lists.proofs.Tests.{untrue, is-member, empty-none}
 use Rattle.rules.specs.Ply.{removable, legalMoves, afterPly}
-use Rattle.rules.proofs.Listed.{successors-are, successor-of}
+use Rattle.rules.specs.MoveList.{listedMoves}
+use Rattle.rules.proofs.CapturesFirst.{listed-legal, legal-listed, listed-empty}
+use Rattle.rules.proofs.Listed.{successor-of, of-successor}
 use Rattle.rules.proofs.Leads.{Reached}
 use Rattle.game.specs.Game.{voidEntry, won}
 use Rattle.game.specs.Play.{Wins, Later}
@@ -57,6 +59,15 @@ pub record Told (rings k : ℕ) (tablebase : List ℕ) (n : ℕ) (b : List ℕ) 
 module _ (rings k : ℕ) (tablebase : List ℕ) (whole : AcceptedTablebase rings k (length tablebase))
     (entries : TrueEntries rings k (AllTables rings k) tablebase) (n : ℕ) (b : List ℕ) (w : Reached rings k b)
     (within : won (next rings) (λ c. wholeSeed c) n b ≡ true) where
+  -- the listed moves lead to the successors
+  ply-of : (c d : List ℕ) → List·Memᴰ d (next rings c) → (m : ℕ) × List·Memᴰ m (listedMoves rings c) × (d ≡ afterPly c m)
+  ply-of c d i =
+      let (m, j, e) = successor-of (λ n c. removable n c) rings c d i in
+      (m, legal-listed (legalMoves rings c) j, e)
+
+  of-ply : (c : List ℕ) (m : ℕ) → List·Memᴰ m (listedMoves rings c) → List·Memᴰ (afterPly c m) (next rings c)
+  of-ply c m i = of-successor (λ n c. removable n c) rings c m (listed-legal (legalMoves rings c) i)
+
   -- play by best moves: it wins, and a later board with the mover to move is won within the plies that are left
   played : Wins (next rings) (λ c. wholeSeed c) (λ c. bestSuccessor rings k tablebase c) n b
       × ((t : ℕ) (c : List ℕ) → Later (next rings) (λ d. wholeSeed d) (λ d. bestSuccessor rings k tablebase d) t b c
@@ -64,7 +75,7 @@ module _ (rings k : ℕ) (tablebase : List ℕ) (whole : AcceptedTablebase rings
   unfolding bestSuccessor bestListed
   played =
       best-plays (next rings) (λ c. wholeSeed c) (Reached rings k) (whole-closed rings k (whole .rings-high)) (λ c x. whole-cases c)
-      (λ c. legalMoves rings c) (λ c m. afterPly c m) (successors-are (λ n c. removable n c) rings) (λ c. successorEntry rings k tablebase c)
+      (λ c. listedMoves rings c) (λ c m. afterPly c m) ply-of of-ply (λ c. successorEntry rings k tablebase c)
       (reached-true rings k tablebase entries) n b w within
 
   pub best-play : Wins (next rings) (λ c. wholeSeed c) (λ c. bestSuccessor rings k tablebase c) n b
@@ -88,7 +99,8 @@ module _ (rings k : ℕ) (tablebase : List ℕ) (whole : AcceptedTablebase rings
   unfolding bestSuccessor bestListed
   best-made =
       listed-made rings b (both-right rings b k (length tablebase) right .0) (bestListed rings k tablebase b)
-      (is-member _ (legalMoves rings b) (best-listed (λ m. entryAfter rings k tablebase b m) (legalMoves rings b) some .0))
+      (is-member _ (listedMoves rings b)
+      (best-listed (λ m. entryAfter rings k tablebase b m) (listedMoves rings b) (listed-empty (legalMoves rings b) ∙ some) .0))
 
   pub best-told : Told rings k tablebase n b
   best-told =

@@ -20,7 +20,9 @@ use Rattle.board.specs.Board.{Values, count, setOf}
 use Rattle.board.proofs.Sides.{members-count}
 use Rattle.board.proofs.Counts.{count-all}
 use Rattle.geometry.proofs.Geometry.{neighbours-are, neighbours-within, neighbours-few}
-use Rattle.rules.specs.Ply.{holds, holding, inMill, destinations, slide, unshielded, removable, noRemoval, removals, moveNumber, slideMoves, stoneMoves, moves}
+use Rattle.rules.specs.Ply.{holds, holding, inMill, destinations, slide, unshielded, removable, noRemoval, removals, moveNumber, slideMoves, stoneMoves, moves, legalMoves}
+use Rattle.rules.specs.MoveList.{listedMoves}
+use Rattle.rules.proofs.CapturesFirst.{listed-length}
 use Rattle.rules.proofs.Listed.{holding-is, destination-vacant}
 use Rattle.rules.proofs.Leads.{slide-length, slide-counts}
 use Rattle.rules.proofs.OnSets.{holding-set}
@@ -117,3 +119,7 @@ module _ (rings : ℕ) (small : rings ≤ 3) where
             le-trans (all-few (count 0 b) (λ from h. jump-few from)) (product (count 1 b) (count 0 b) (count 2 b) (eqb-true (count 1 b) 3 e) vacant o)
         go false e =
             le-trans (all-few 4 (λ from h. near-few (eqb-false (count 1 b) 3 e) from h)) (le-trans (mul-le-mul-right (4 * count 2 b) m) (omega arith))
+
+    -- captures first, the list is as long
+    pub listed-bound : length (listedMoves rings b) ≤ 324
+    listed-bound = omega (arith, listed-length (legalMoves rings b), moves-bound)

@@ -4,10 +4,10 @@ use mathlib.Core.Path.{_≡_, refl, sym, ap, subst, _∙_}
 use mathlib.Core.Bool.{Bool, true, false, not}
 use mathlib.Core.List.{List, _++_, map, List·Memᴰ}
 use mathlib.Core.Logic.{_⊎_, inl, inr}
-use Prim.Native.Nat.{ℕ, _*_, _≤_, _<_}
+use Prim.Native.Nat.{ℕ, _+_, _*_, _≤_, _<_}
 use native.Mathlib.Omega.{arith}
 use lib.Dec.{eqb}
-use lib.ListN.{length, getD}
+use lib.ListN.{length, length-append, getD}
 use borrow.Author.Tests.{eq-eqb, eqb-false}
 use Rattle.lists.specs.Lists.{keep, member, isEmpty, Rising}
 use Rattle.lists.proofs.Parted.{parted-member, member-parted, parted-length, parted-empty, parted-first, parted-rises, parted-once, keep-map}
@@ -52,6 +52,9 @@ module _ (ms : List ℕ) where
   pub listed-length : length (capturesFirst ms) ≡ length ms
   unfolding capturesFirst
   listed-length = parted-length (λ m. isCapture m) ms
+
+  pub listed-total : length (captures ms) + length (others ms) ≡ length (capturesFirst ms)
+  listed-total = sym (ap length listed-are ∙ length-append (captures ms) (others ms))
 
   pub listed-empty : isEmpty (capturesFirst ms) ≡ isEmpty ms
   unfolding capturesFirst

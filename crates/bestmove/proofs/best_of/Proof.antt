@@ -10,6 +10,8 @@ use Rattle.lists.proofs.Members.{getD-member}
 use Rattle.lists.proofs.Tests.{is-member}
 use Rattle.board.specs.Board.{boardOf}
 use Rattle.rules.specs.Ply.{legalMoves}
+use Rattle.rules.specs.MoveList.{listedMoves}
+use Rattle.rules.proofs.CapturesFirst.{listed-legal}
 use Rattle.bestmove.specs.Best.{bestEntry, bestMove}
 use Rattle.bestmove.specs.Inner.Worth.{entryBy}
 use Rattle.bestmove.proofs.MoveEntries.{moves-told}
@@ -29,7 +31,8 @@ abbrev μ-loop : tie.MeasureT-loop
 listed : (c : tie.Start Inv-loop μ-loop) (i : ℕ) → i < length (c .args .moves .now)
     → member (getD (c .args .moves .now) i 0) (legalMoves (c .args .rings) (boardOf (8 * c .args .rings) (c .args .position))) ≡ true
 listed c i h =
-    is-member _ _ (subst (λ (l : List ℕ). List·Memᴰ (getD (c .args .moves .now) i 0) l) (c .pre .1 .1) (getD-member (c .args .moves .now) i h))
+    is-member _ _ (listed-legal _ (subst (λ (l : List ℕ). List·Memᴰ (getD (c .args .moves .now) i 0) l) (c .pre .1 .1)
+    (getD-member (c .args .moves .now) i h)))
 
 shared-slice-read-with-entry : tie.Need-shared-slice-read-with-entry Inv-loop μ-loop
 shared-slice-read-with-entry c = c .before .before .before .pre .1 .0
@@ -84,10 +87,10 @@ returns c =
     let a = s .args in
     let b : List ℕ = boardOf (8 * a .rings) (a .position) in
     let f : ℕ → ℕ = λ m. entryBy (a .tablebase .now) (a .starts .same) (a .starts .fewer) b m in
-    let same : a .moves .now ≡ legalMoves (a .rings) b = s .pre .1 .1 in
+    let same : a .moves .now ≡ listedMoves (a .rings) b = s .pre .1 .1 in
     let r = running-all f (a .moves .now) (x .loop .i) (x .loop .best) (omega (arith, x .loop .inv .0, c .loop-test .left)) (s .pre .1 .0)
     (λ m i. moves-told (a .tablebase .now) (λ j. omega (arith, k .shared-slice-known .given j)) (a .starts .same) (a .starts .fewer) (a .rings) b (s .pre .0 .told) m
-    (subst (λ (l : List ℕ). List·Memᴰ m l) same i)) (x .loop .inv .1) in
+    (listed-legal _ (subst (λ (l : List ℕ). List·Memᴰ m l) same i))) (x .loop .inv .1) in
     (r .0 ∙ ap (bestMove f) same, r .1 ∙ ap (λ (l : List ℕ). bestEntry (map f l)) same)
 
 pub best-of-spec : {M : Type 1} → statement M

@@ -5,7 +5,7 @@ use mathlib.Core.List.{List}
 use Prim.Native.Nat.{ℕ, _+_, _*_}
 use native.Mathlib.Nat.{zero-add}
 use native.Mathlib.Omega.{arith}
-use lib.ListN.{length, length-append}
+use lib.ListN.{length}
 use lib.Seq.{sets}
 use Rattle.lists.proofs.Writing.{sets-append}
 use Rattle.sets.specs.Sets.{bit, elements}
@@ -14,7 +14,7 @@ use Rattle.sets.proofs.Dealt.{Dealt, dealt-none, dealt-room, dealt-more, dealt-
 use Rattle.board.specs.Board.{boardOf}
 use Rattle.rules.specs.Ply.{destinations, removable, stoneMoves, legalMoves}
 use Rattle.rules.specs.MoveList.{isCapture, captures, others}
-use Rattle.rules.proofs.CapturesFirst.{listed-are}
+use Rattle.rules.proofs.CapturesFirst.{listed-are, listed-total}
 use Rattle.plies.proofs.OnPositions.{mover-small}
 use Rattle.plies.proofs.StoneMoves.{destinations-vacant, fromStone, stone-given, mover-fits}
 use Rattle.listing.specs.Inner.Places.{dealt}
@@ -83,8 +83,7 @@ list-stone-requires c κs =
       arith,
       s .pre .1 .0,
       s .pre .1 .1,
-      ap length (listed-are (legal s)),
-      length-append (captures (legal s)) (others (legal s)),
+      listed-total (legal s),
       ap length (moves-kept (a .rings) (a .position) (s .pre .0 .placed) (λ m. not (isCapture m))),
     )) in (
       s .pre .0,

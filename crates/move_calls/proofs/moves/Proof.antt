@@ -1,14 +1,16 @@
 -- `move_calls::moves` meets its contract: a refusal of the board, then of the list, or the moves. Assumes nothing.
-use mathlib.Core.Path.{_≡_, sym, ap, _∙_}
+use mathlib.Core.Path.{_≡_, sym, ap, ap₂, _∙_}
 use mathlib.Core.Bool.{Bool, cond}
 use mathlib.Core.List.{[], _∷_}
-use Prim.Native.Nat.{ℕ}
+use Prim.Native.Nat.{ℕ, _+_, _*_}
 use native.Mathlib.Omega.{arith}
 use lib.ListN.{length}
 use lib.Seq.{sets}
 use borrow.Author.Tests.{lt-ltb, le-ltb}
 use borrow.Author.Needs.{needs}
-use Rattle.rules.specs.Ply.{legalMoves}
+use Rattle.board.specs.Board.{boardOf}
+use Rattle.rules.specs.MoveList.{capturesFirst, listedMoves}
+use Rattle.rules.proofs.CapturesFirst.{listed-total}
 use Rattle.refusals.specs.Refusals.{refusal}
 use Rattle.refusals.specs.Conditions.{boardPicks}
 use Rattle.move_calls.specs.MovesCall.{movesCall, movesList}
@@ -35,6 +37,17 @@ board c = accepted-board _ _ (sym (passed-board c))
 shows : (c : tie.After-position-of) → ShowsBoard (started (placing c) .args .rings) (started (placing c) .args .board .now) (c .position-of .result)
 shows c = board-shown _ _ (board (placing c)) _ (c .position-of .ensures)
 
+-- the list of its position's moves is its own, and so many were counted
+listed-back : (c : tie.After-position-of)
+    → listedMoves (started (placing c) .args .rings) (boardOf (8 * started (placing c) .args .rings) (c .position-of .result))
+    ≡ listedMoves (started (placing c) .args .rings) (started (placing c) .args .board .now)
+listed-back c = ap capturesFirst (shows c .moves-back)
+
+counted : (c : tie.After-count-moves) → c .count-moves .result .captures + c .count-moves .result .others
+    ≡ length (listedMoves (started (placing (c .before .before)) .args .rings) (started (placing (c .before .before)) .args .board .now))
+counted c =
+    ap₂ _+_ (c .count-moves .ensures .0 .0) (c .count-moves .ensures .1 .0) ∙ listed-total _ ∙ ap length (listed-back (c .before .before))
+
 of-board-requires : tie.Need-of-board-requires
 of-board-requires c κs = search needs
 
@@ -44,7 +57,7 @@ returns c =
     let a = c .before .before .before .before .args in
     let n = c .before .of-board .result in
     turned-back _ _ _ _ n (c .if1 .taken)
-    (short-refused (a .rings) (a .board .now) (length (a .list .now)) (length (legalMoves (a .rings) (a .board .now))) n (c .if1 .taken)
+    (short-refused (a .rings) (a .board .now) (length (a .list .now)) (length (listedMoves (a .rings) (a .board .now))) n (c .if1 .taken)
     (c .before .of-board .ensures))
 
 masks-of-requires : tie.Need-masks-of-requires
@@ -56,24 +69,29 @@ position-of-requires c κs = few-points _ _ (board (c .before))
 count-moves-requires : tie.Need-count-moves-requires
 count-moves-requires c κs = let p = c .before in record { masks = p .before .masks-of .ensures; placed = shows p .placed }
 
+add-count : tie.Need-add-count
+add-count c = search needs
+
 returns-2 : tie.Need-returns-2
 unfolding movesCall movesList
 returns-2 c =
-    let n = c .before in
+    let n = c .before .before in
     let p = n .before .before in
     let x = placing p in
     let a = started x .args in
-    let m = length (legalMoves (a .rings) (a .board .now)) in
-    let short = lt-ltb (length (a .list .now)) m (omega (arith, c .if2 .taken, n .count-moves .ensures, ap length (shows p .moves-back))) in
+    let m = length (listedMoves (a .rings) (a .board .now)) in
+    let short = lt-ltb (length (a .list .now)) m (omega (arith, c .if2 .taken, counted n)) in
     turned-back _ _ _ _ 7 (λ z. absurd (omega arith))
     (sym (short-decides (a .rings) (a .board .now) (length (a .list .now)) m (passed-board x) ∙ ap (λ (t : Bool). cond t 7 0) short))
 
 list-moves-requires : tie.Need-list-moves-requires
 list-moves-requires c κs =
     let e = c .before .before in
-    let n = e .before in
-    let p = n .before .before in
-    (record { masks = p .before .masks-of .ensures; placed = shows p .placed }, omega (arith, e .if2 .left, n .count-moves .ensures))
+    let n = e .before .before in
+    let p = n .before .before in (
+      record { masks = p .before .masks-of .ensures; placed = shows p .placed },
+      (n .count-moves .ensures .0 .0, omega (arith, e .if2 .left, counted n, ap length (listed-back p))),
+    )
 
 same-length : tie.Need-same-length
 same-length c = search needs
@@ -82,16 +100,16 @@ returns-3 : tie.Need-returns-3
 unfolding movesCall movesList
 returns-3 c =
     let e = c .before .before .before .before .before in
-    let n = e .before in
+    let n = e .before .before in
     let p = n .before .before in
     let x = placing p in
     let a = started x .args in
-    let m = length (legalMoves (a .rings) (a .board .now)) in
-    let fits = le-ltb (length (a .list .now)) m (omega (arith, e .if2 .left, n .count-moves .ensures, ap length (shows p .moves-back))) in
+    let m = length (listedMoves (a .rings) (a .board .now)) in
+    let fits = le-ltb (length (a .list .now)) m (omega (arith, e .if2 .left, counted n)) in
     written _ _ _ _ _ _
     (sym (short-decides (a .rings) (a .board .now) (length (a .list .now)) m (passed-board x) ∙ ap (λ (t : Bool). cond t 7 0) fits))
-    (ap (λ (k : ℕ). k ∷ []) (n .count-moves .ensures ∙ ap length (shows p .moves-back)))
-    (c .before .before .list-moves .ensures ∙ ap (sets (a .list .now) 0) (shows p .moves-back))
+    (ap (λ (k : ℕ). k ∷ []) (counted n))
+    (c .before .before .list-moves .ensures ∙ ap (sets (a .list .now) 0) (listed-back p))
 
 pub moves-spec : {M : Type 1} → statement M
 moves-spec =
@@ -102,6 +120,7 @@ moves-spec =
     masks-of-requires
     position-of-requires
     count-moves-requires
+    add-count
     returns-2
     list-moves-requires
     same-length
