@@ -5,6 +5,9 @@ namespace {
 
 constexpr uint32_t NO_REMOVAL = 31, NO_POINT = 1u << POINTS_MAX;
 
+// Three stones to 21 points; nine stones have four neighbours each at the most.
+constexpr int SLIDES_MAX = 63;
+
 } // namespace
 
 Board::Board(int rings) : points_(8 * rings), cross_places_(rings == 3 ? ODD_PLACES : 0) {
@@ -22,7 +25,8 @@ Board::Board(int rings) : points_(8 * rings), cross_places_(rings == 3 ? ODD_PLA
 }
 
 int Board::moves(Position at, uint16_t *list) const {
-    int length = 0, stones = std::popcount(at.mover);
+    uint16_t others[SLIDES_MAX];
+    int captures = 0, rest = 0, stones = std::popcount(at.mover);
     uint32_t free = vacant(at), taken = removable(at.opponent);
     for (uint32_t from_set = at.mover; from_set;) {
         int from = pop(from_set);
@@ -30,12 +34,13 @@ int Board::moves(Position at, uint16_t *list) const {
             int to = pop(to_set);
             uint32_t slide = 1024 * from + 32 * to;
             if (closes(at.mover & ~(1u << from), to))
-                for (uint32_t rest = taken; rest;) list[length++] = slide + pop(rest);
+                for (uint32_t left = taken; left;) list[captures++] = slide + pop(left);
             else
-                list[length++] = slide + NO_REMOVAL;
+                others[rest++] = slide + NO_REMOVAL;
         }
     }
-    return length;
+    std::copy_n(others, rest, list + captures);
+    return captures + rest;
 }
 
 Position Board::unrank(int mover, int opponent, uint64_t rank) const {

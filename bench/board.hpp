@@ -131,7 +131,7 @@ class Board {
         return (set & some) == some || (set & others) == others;
     }
 
-    // Lists the moves by rising number and returns how many.
+    // Lists the moves, those with a removal by rising number, then the others by rising number, and returns how many.
     int moves(Position at, uint16_t *list) const;
 
     uint64_t size(int mover, int opponent) const { return counting::boards(points_, mover, opponent); }

@@ -48,8 +48,8 @@ uint8_t morris_rank(uint8_t rings, const uint8_t *board, size_t board_len, uint6
 /* Writes the board of a rank among those of the given counts over the target, of 8 * rings bytes. Refusals 1, 4, 6, 5. */
 uint8_t morris_unrank(uint8_t rings, uint8_t mover, uint8_t opponent, uint64_t rank, uint8_t *target, size_t target_len);
 
-/* Lists a board's moves by rising number at the start of the list, and says how many; the rest of the list keeps its contents.
- * Refusals 1, 2, 3, 4, 7. */
+/* Lists a board's moves at the start of the list, those with a removal by rising number, then the others by rising number, and says how many;
+ * the rest of the list keeps its contents. Refusals 1, 2, 3, 4, 7. */
 uint8_t morris_moves(uint8_t rings, const uint8_t *board, size_t board_len, uint16_t *moves, size_t moves_len, size_t *count);
 
 /* Writes the board after a listed move over the target, of 8 * rings bytes; the sides have changed names. Refusals 1, 2, 3, 4, 6, 8. */

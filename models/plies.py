@@ -55,10 +55,12 @@ def numbered(move):
     return move // 1024, move // 32 % 32, move % 32
 
 
-# The order of a list: "Moves are listed by rising number."
+# The order of a list (document 02, A2): "all moves with a removal, by rising number, and then the others, by rising number".
 @lru_cache(maxsize=1)
 def listed(board):
-    return sorted(plies(board), key=number)
+    rising = sorted(plies(board), key=number)
+    captures = [ply for ply in rising if ply[2] != NO_REMOVAL]
+    return captures + [ply for ply in rising if ply[2] == NO_REMOVAL]
 
 
 # The board after a ply: "the sides change names: 1 becomes 2 and 2 becomes 1."

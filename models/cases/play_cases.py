@@ -1,7 +1,8 @@
-"""Moves listed and made, and sums of moves over tables."""
+"""Moves listed and made, and the lists of tables as digits."""
 
 import calls
 from cases.notation import THREE_RINGS, answered, board, done, numbers, points
+from cases.sums import with_digit
 
 # Rings, board, and the room of the list.
 LISTS = (
@@ -24,8 +25,9 @@ MOVES = (
 )
 
 # Rings, counts, how many ranks, and how far apart: whole tables of one ring, tables of two and three from end to end.
-SUMS = (
-    (1, 3, 3, 560, 1), (1, 4, 3, 280, 1), (2, 3, 4, 20000, 20), (2, 5, 4, 20000, 72),
+TABLES = (
+    (1, 3, 3, 560, 1), (1, 3, 4, 280, 1), (1, 3, 5, 56, 1), (1, 4, 3, 280, 1), (1, 4, 4, 70, 1), (1, 5, 3, 56, 1),
+    (2, 3, 4, 20000, 20), (2, 5, 4, 20000, 72),
     (3, 3, 9, 20000, 29745), (3, 4, 3, 20000, 605), (3, 9, 9, 20000, 327202),
 )
 
@@ -47,19 +49,24 @@ def next_rank(rings, board, move):
     return 1000 if refusal else rank
 
 
-# A board's moves: how many, their numbers, and the ranks that they lead to, added up.
-def sum_at(rings, mover, opponent, rank):
+# A board's moves in their order, each with the rank that it leads to, and how many they are, as digits after a 1.
+def digits_at(rings, mover, opponent, rank):
     board = calls.unrank(rings, mover, opponent, rank, bytes(8 * rings))[1]
     _, count, target = calls.moves(rings, board, [0] * 324)
-    return count + sum(move + next_rank(rings, board, move) for move in target[:count])
+    digits = 1
+    for move in target[:count]:
+        digits = with_digit(with_digit(digits, move), next_rank(rings, board, move))
+    return with_digit(digits, count)
 
 
-def sum_of_moves(rings, mover, opponent, ranks, step):
-    total = sum(sum_at(rings, mover, opponent, step * i) for i in range(ranks))
-    return f"sum of moves {rings} {mover} {opponent}: {total}"
+def lists_of_moves(rings, mover, opponent, ranks, step):
+    digits = 0
+    for i in range(ranks):
+        digits = with_digit(digits, digits_at(rings, mover, opponent, step * i))
+    return f"lists of moves {rings} {mover} {opponent}: digits {digits}"
 
 
 def lines():
     yield from (moves(*case) for case in LISTS)
     yield from (make_move(*case) for case in MOVES)
-    yield from (sum_of_moves(*case) for case in SUMS)
+    yield from (lists_of_moves(*case) for case in TABLES)

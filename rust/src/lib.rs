@@ -87,7 +87,8 @@ pub fn unrank(rings: u8, mover: u8, opponent: u8, rank: u64, target: &mut [u8]) 
     answer(number, ())
 }
 
-/// Lists a board's moves by rising number at the start of the list, and says how many. Refusals 1, 2, 3, 4, 7.
+/// Lists a board's moves at the start of the list, those with a removal by rising number, then the others by rising number, and says how many.
+/// Refusals 1, 2, 3, 4, 7.
 pub fn moves(rings: u8, board: &[u8], list: &mut [u16]) -> Result<usize, Refused> {
     let mut count = 0;
     let number = unsafe { ffi::morris_moves(rings, board.as_ptr(), board.len(), list.as_mut_ptr(), list.len(), &mut count) };

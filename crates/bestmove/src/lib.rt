@@ -43,9 +43,7 @@ fn worth(entry: u16) -> u32
 fn better(first: Best, second: Best) -> Best
     ensures { λ r. ⌜ r ≡ elim (ltb (worth (first .entry)) (worth (second .entry))) [ true ↦ second | false ↦ first ] ⌝ }
 {
-    let kept = worth(first.entry);
-    let next = worth(second.entry);
-    if kept < next {
+    if worth(first.entry) < worth(second.entry) {
         return second;
     }
     first

@@ -1,7 +1,6 @@
 // Document 01's cases of entries looked up and of best moves, in a tablebase of one ring, a printed line for each.
 use fill_cases::VOID_ENTRY;
 use fill_cases::make_up;
-use fill_cases::with_digit;
 use morris::Chosen;
 use morris::Looked;
 use morris::Unranked;
@@ -15,6 +14,7 @@ use notation::refused;
 use notation::table;
 use notation::text;
 use notation::wider;
+use notation::with_digit;
 
 // The entry of a board of so many points in a tablebase of largest count k.
 fn lookup(rings: u8, length: usize, digits: u64, k: u8, tablebase: &[u16]) {

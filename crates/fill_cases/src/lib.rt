@@ -7,4 +7,3 @@ pub use fills::put;
 pub use fills::run;
 pub use sums::VOID_ENTRY;
 pub use sums::contents;
-pub use sums::with_digit;

@@ -2,6 +2,7 @@
 use notation::add;
 use notation::print;
 use notation::wider;
+use notation::with_digit;
 
 pub const DRAW_ENTRY: u16 = 65535;
 
@@ -19,11 +20,6 @@ struct Sums {
 
 fn depth(entry: u16) -> u64 {
     if entry < VOID_ENTRY { wider(entry) } else { 0 }
-}
-
-// One more digit of a number, modulo a prime.
-pub fn with_digit(digits: u64, digit: u64) -> u64 {
-    add(digits % 1000003 * 65537, digit) % 1000003
 }
 
 fn with_entry(sums: Sums, entry: u16) -> Sums {

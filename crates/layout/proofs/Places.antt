@@ -9,7 +9,7 @@ use native.Mathlib.Omega.{arith}
 use lib.Dec.{leb, ltb}
 use borrow.Author.Tests.{leb-false, lt-ltb, le-ltb, eq-eqb, ne-eqb}
 use Rattle.lists.specs.Lists.{range, keep, each}
-use Rattle.lists.proofs.Keep.{keep-yes, keep-no}
+use Rattle.lists.proofs.Keep.{keep-yes, keep-no, keep-append}
 use Rattle.sizes.specs.Size.{size}
 use Rattle.layout.specs.Layout.{Table, table, stones, row, tables, entries, earlier, start, tablebaseLength}
 use Rattle.sizes.proofs.Multinomials.{size-over}
@@ -20,15 +20,6 @@ range-split a zero n = ap₂ range (sym (add-zero a)) (zero-add n)
 range-split a (suc d) n =
     let e : suc a + d ≡ a + suc d = suc-add a d ∙ sym (add-suc a d) in
     ap (range a) (suc-add d n) ∙ ap (λ (l : List ℕ). a ∷ l) (range-split (suc a) d n ∙ ap (λ (k : ℕ). range (suc a) d ++ range k n) e)
-
-module _ {A : Type 0} (f : A → Bool) where
-  keep-append : (xs ys : List A) → keep f (xs ++ ys) ≡ keep f xs ++ keep f ys
-  keep-append [] ys = refl
-  keep-append (x ∷ xs) ys = go (f x) refl (keep-append xs ys)
-    where
-      go : (b : Bool) → f x ≡ b → keep f (xs ++ ys) ≡ keep f xs ++ keep f ys → keep f (x ∷ xs ++ ys) ≡ keep f (x ∷ xs) ++ keep f ys
-      go true e r = rw (keep-yes f x xs e) (keep-yes f x (xs ++ ys) e ∙ ap (λ (l : List A). x ∷ l) r)
-      go false e r = rw (keep-no f x xs e) (keep-no f x (xs ++ ys) e ∙ r)
 
 each-append : {A B : Type 0} (f : A → List B) (xs ys : List A) → each f (xs ++ ys) ≡ each f xs ++ each f ys
 each-append f [] ys = refl

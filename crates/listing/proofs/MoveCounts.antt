@@ -7,8 +7,8 @@ use Prim.Native.Nat.{ℕ, _*_, _≤_}
 use native.Mathlib.Omega.{arith}
 use lib.ListN.{length, length-map}
 use Rattle.lists.specs.Lists.{keep}
+use Rattle.lists.proofs.Keep.{keep-each}
 use Rattle.lists.proofs.Lengths.{keep-le, each-le}
-use Rattle.lists.proofs.Parted.{keep-each}
 use Rattle.sets.specs.Sets.{elements, setFrom}
 use Rattle.sets.proofs.Laws.{members-le}
 use Rattle.sets.proofs.Elements.{length-elements}

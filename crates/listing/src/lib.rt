@@ -4,7 +4,7 @@ ghost use mathlib.Core.List.{map};
 ghost use Prim.Native.Nat.{_+_, _*_, _≤_, _<_};
 ghost use lib.ListN.{length};
 ghost use lib.Seq.{sets};
-ghost use Rattle.sets.specs.Sets.{elements};
+ghost use Rattle.sets.specs.Sets.{without, members, elements};
 ghost use Rattle.board.specs.Board.{boardOf};
 ghost use Rattle.rules.specs.Ply.{legalMoves};
 ghost use Rattle.rules.specs.MoveList.{captures, others, listedMoves};
@@ -19,6 +19,17 @@ const NO_STONE: usize = 31;
 pub struct Counts {
     pub captures: usize,
     pub others: usize,
+}
+
+// How many stones are among what a slide may remove. Most slides remove nothing, and nothing is counted then.
+fn stones_in(removals: u32) -> usize
+    ensures { λ r. ⌜ (r ≡ members (without removals 31) 32) × (r ≤ 32) ⌝ }
+{
+    let stones = sets::without(removals, NO_STONE);
+    if stones == 0 {
+        return 0;
+    }
+    sets::count(stones) as usize
 }
 
 // How many moves one stone has to the points of a set.
@@ -42,7 +53,7 @@ fn count_stone(
     while left != 0 {
         let to = sets::take_lowest(left);
         let removals = plies::removals(rings, masks, position, from, to.lowest);
-        captures += sets::count(sets::without(removals, NO_STONE)) as usize;
+        captures += stones_in(removals);
         others += sets::has(removals, NO_STONE) as usize;
         left = to.rest;
     }
@@ -116,9 +127,10 @@ fn list_stone(
         let to = sets::take_lowest(left);
         let removals = plies::removals(rings, masks, position, from, to.lowest);
         let stones = sets::without(removals, NO_STONE);
+        let none = removals - stones;
         let slide = making::slide_number(from, to.lowest);
         captures = list_removals(slide, stones, list, captures);
-        others = list_removals(slide, removals - stones, list, others);
+        others = list_removals(slide, none, list, others);
         left = to.rest;
     }
     Places { captures, others }

@@ -1,12 +1,12 @@
--- Laws of `keep`: what a test says of the first member, and the numbers below a bound. Assumes nothing.
+-- Laws of `keep`: what a test says of the first member, lists made of parts or by a function, and the numbers below a bound. Assumes nothing.
 use mathlib.Core.Path.{_≡_, refl, sym, ap, _∙_}
 use mathlib.Core.Bool.{Bool, true, false}
-use mathlib.Core.List.{List, [], _∷_}
+use mathlib.Core.List.{List, [], _∷_, _++_, map}
 use Prim.Native.Nat.{ℕ, zero, suc, _+_, _≤_}
 use native.Mathlib.Omega.{arith}
 use lib.Dec.{ltb}
 use borrow.Author.Tests.{lt-ltb, le-ltb}
-use Rattle.lists.specs.Lists.{range, keep}
+use Rattle.lists.specs.Lists.{range, keep, each}
 
 module _ {A : Type 0} (f : A → Bool) (x : A) (xs : List A) where
   pub keep-yes : f x ≡ true → keep f (x ∷ xs) ≡ x ∷ keep f xs
@@ -26,6 +26,29 @@ keep-keep f g (x ∷ l) = go (f x) refl (g x) refl (keep-keep f g l)
     go true p false q r = ap (keep f) (keep-no g x l q) ∙ r ∙ sym (ap (keep g) (keep-yes f x l p) ∙ keep-no g x (keep f l) q)
     go false p true q r = ap (keep f) (keep-yes g x l q) ∙ keep-no f x (keep g l) p ∙ r ∙ ap (keep g) (sym (keep-no f x l p))
     go false p false q r = ap (keep f) (keep-no g x l q) ∙ r ∙ ap (keep g) (sym (keep-no f x l p))
+
+-- what is kept of a list that was made of parts, or by a function
+pub keep-append : {A : Type 0} (f : A → Bool) (a b : List A) → keep f (a ++ b) ≡ keep f a ++ keep f b
+keep-append f [] b = refl
+keep-append {A} f (x ∷ a) b = go (f x) refl (keep-append f a b)
+  where
+    go : (c : Bool) → f x ≡ c → keep f (a ++ b) ≡ keep f a ++ keep f b → keep f (x ∷ (a ++ b)) ≡ keep f (x ∷ a) ++ keep f b
+    go true e r = rw (e, keep) (ap (λ (l : List A). x ∷ l) r)
+    go false e r = rw (e, keep) r
+
+module _ {A B : Type 0} (f : B → Bool) where
+  pub keep-each : (g : A → List B) (l : List A) → keep f (each g l) ≡ each (λ x. keep f (g x)) l
+  keep-each g [] = refl
+  keep-each g (x ∷ l) = keep-append f (g x) (each g l) ∙ ap (λ (k : List B). keep f (g x) ++ k) (keep-each g l)
+
+  pub keep-map : (g : A → B) (l : List A) → keep f (map g l) ≡ map g (keep (λ x. f (g x)) l)
+  keep-map g [] = refl
+  keep-map g (x ∷ l) = go (f (g x)) refl (keep-map g l)
+    where
+      go : (c : Bool) → f (g x) ≡ c → keep f (map g l) ≡ map g (keep (λ y. f (g y)) l)
+          → keep f (g x ∷ map g l) ≡ map g (keep (λ y. f (g y)) (x ∷ l))
+      go true e r = rw (e, keep) (ap (λ (k : List B). g x ∷ k) r)
+      go false e r = rw (e, keep) r
 
 module _ (f : ℕ → Bool) (n : ℕ) where
   below : ℕ → Bool

@@ -2,43 +2,20 @@
 -- long, and where it rises, both parts rise and no member stands twice. Assumes nothing.
 use mathlib.Core.Path.{_≡_, refl, sym, ap, _∙_}
 use mathlib.Core.Bool.{Bool, true, false, not}
-use mathlib.Core.List.{List, [], _∷_, _++_, map, List·Memᴰ, List·Memᴰ·append-cases, Memᴰ·append-left, Memᴰ·append-right}
+use mathlib.Core.List.{List, [], _∷_, _++_, List·Memᴰ, List·Memᴰ·append-cases, Memᴰ·append-left, Memᴰ·append-right}
 use mathlib.Core.Logic.{_⊎_, inl, inr}
-use Prim.Native.Nat.{ℕ, _+_, _-_, _≤_, _<_}
+use Prim.Native.Nat.{ℕ, _+_, _-_, _<_}
 use native.Mathlib.Omega.{arith}
 use lib.Dec.{eqb, ltb}
 use lib.ListN.{length, length-append, getD, List·getD-append}
 use lib.Seq.{getD-append-add}
 use borrow.Author.Tests.{ltb-true, ltb-false}
-use Rattle.lists.specs.Lists.{keep, each, isEmpty, Rising}
+use Rattle.lists.specs.Lists.{keep, isEmpty, Rising}
 use Rattle.lists.proofs.Keep.{keep-yes, keep-no}
 use Rattle.lists.proofs.Lengths.{empty-length}
 use Rattle.lists.proofs.Members.{keep-member, member-keep, getD-member}
 use Rattle.lists.proofs.Rises.{rising-keep, rising-once}
 use Rattle.lists.proofs.Tests.{clash}
-
--- what is kept of a list that was made of parts, or by a function
-keep-append : {A : Type 0} (f : A → Bool) (a b : List A) → keep f (a ++ b) ≡ keep f a ++ keep f b
-keep-append f [] b = refl
-keep-append {A} f (x ∷ a) b = go (f x) refl (keep-append f a b)
-  where
-    go : (c : Bool) → f x ≡ c → keep f (a ++ b) ≡ keep f a ++ keep f b → keep f (x ∷ (a ++ b)) ≡ keep f (x ∷ a) ++ keep f b
-    go true e r = rw (e, keep) (ap (λ (l : List A). x ∷ l) r)
-    go false e r = rw (e, keep) r
-
-module _ {A B : Type 0} (f : B → Bool) where
-  pub keep-each : (g : A → List B) (l : List A) → keep f (each g l) ≡ each (λ x. keep f (g x)) l
-  keep-each g [] = refl
-  keep-each g (x ∷ l) = keep-append f (g x) (each g l) ∙ ap (λ (k : List B). keep f (g x) ++ k) (keep-each g l)
-
-  pub keep-map : (g : A → B) (l : List A) → keep f (map g l) ≡ map g (keep (λ x. f (g x)) l)
-  keep-map g [] = refl
-  keep-map g (x ∷ l) = go (f (g x)) refl (keep-map g l)
-    where
-      go : (c : Bool) → f (g x) ≡ c → keep f (map g l) ≡ map g (keep (λ y. f (g y)) l)
-          → keep f (g x ∷ map g l) ≡ map g (keep (λ y. f (g y)) (x ∷ l))
-      go true e r = rw (e, keep) (ap (λ (k : List B). g x ∷ k) r)
-      go false e r = rw (e, keep) r
 
 module _ {A : Type 0} (f : A → Bool) where
   abbrev pub failing : List A → List A

@@ -9,7 +9,8 @@ pub use answers::Unranked;
 pub use rank_calls::rank;
 pub use rank_calls::unrank;
 
-// Moves. `moves` lists a board's moves by rising number. `make_move` writes the board after a listed move.
+// Moves. `moves` lists a board's moves, those with a removal by rising number, then the others by rising number. `make_move` writes the board after
+// a listed move.
 pub use answers::Listed;
 pub use answers::Made;
 pub use move_calls::make_move;

@@ -76,6 +76,11 @@ pub fn add(x: u64, y: u64) -> u64 {
     std::num::wrapping_add_u64(x, y)
 }
 
+// One more digit of a number in base 65,537, modulo a prime.
+pub fn with_digit(digits: u64, digit: u64) -> u64 {
+    add(digits % 1000003 * 65537, digit) % 1000003
+}
+
 pub fn refused(n: u8) {
     text(b" refused");
     number(n as u64);

@@ -18,6 +18,7 @@ use notation::space;
 use notation::table;
 use notation::text;
 use notation::wider;
+use notation::with_digit;
 
 fn list_over(rings: u8, board: &[u8], list: &mut [u16]) {
     about(b"moves", rings, board);
@@ -108,22 +109,22 @@ fn next(rings: u8, board: &[u8], move_number: u16, target: &mut [u8]) -> u64 {
     r
 }
 
-// A board's first n moves: their numbers, and the ranks that they lead to, added up.
-fn sum(rings: u8, board: &[u8], list: &[u16], n: usize, target: &mut [u8]) -> u64 {
+// A board's first n moves in their order: after a 1, the digits of a number are their numbers, each with the rank that it leads to.
+fn list_digits(rings: u8, board: &[u8], list: &[u16], n: usize, target: &mut [u8]) -> u64 {
     let most = least(n, list.len());
-    let mut s: u64 = 0;
+    let mut digits: u64 = 1;
     let mut i = 0;
     while i < most {
         let number = list[i];
         let rank = next(rings, board, number, target);
-        s = add(s, add(wider(number), rank));
+        digits = with_digit(with_digit(digits, wider(number)), rank);
         i += 1;
     }
-    s
+    digits
 }
 
-// The same of a rank's board.
-fn sum_at(
+// The same of a rank's board, and how many moves it has.
+fn digits_at(
     rings: u8,
     mover: u8,
     opponent: u8,
@@ -138,11 +139,11 @@ fn sum_at(
     let Listed::Count(n) = move_calls::moves(rings, board, list) else {
         return 0;
     };
-    add(n as u64, sum(rings, board, list, n, target))
+    with_digit(list_digits(rings, board, list, n, target), n as u64)
 }
 
 // And of so many ranks, a step apart.
-fn total(
+fn table_digits(
     rings: u8,
     mover: u8,
     opponent: u8,
@@ -152,27 +153,27 @@ fn total(
     target: &mut [u8],
 ) -> u64 {
     let mut list = [0u16; 324];
-    let mut s: u64 = 0;
+    let mut digits: u64 = 0;
     let mut rank: u64 = 0;
     let mut i: u64 = 0;
     while i < n {
-        s = add(
-            s,
-            sum_at(rings, mover, opponent, rank, board, &mut list, target),
+        digits = with_digit(
+            digits,
+            digits_at(rings, mover, opponent, rank, board, &mut list, target),
         );
         rank = add(rank, step);
         i += 1;
     }
-    s
+    digits
 }
 
-fn sums(rings: u8, mover: u8, opponent: u8, n: u64, step: u64) {
-    table(b"sum of moves", rings, mover, opponent);
-    colon();
+fn lists_of(rings: u8, mover: u8, opponent: u8, n: u64, step: u64) {
+    table(b"lists of moves", rings, mover, opponent);
+    text(b": digits");
     let mut board = [0u8; 24];
     let mut target = [0u8; 24];
     let p = least(8 * rings as usize, 24);
-    number(total(
+    number(table_digits(
         rings,
         mover,
         opponent,
@@ -184,15 +185,19 @@ fn sums(rings: u8, mover: u8, opponent: u8, n: u64, step: u64) {
     end();
 }
 
-// The sums are of whole tables of one ring, and of tables of two and three rings from end to end.
+// All lists of one ring, and those of tables of two and three rings from end to end.
 pub fn run() {
     lists();
     plies();
-    sums(1, 3, 3, 560, 1);
-    sums(1, 4, 3, 280, 1);
-    sums(2, 3, 4, 20000, 20);
-    sums(2, 5, 4, 20000, 72);
-    sums(3, 3, 9, 20000, 29745);
-    sums(3, 4, 3, 20000, 605);
-    sums(3, 9, 9, 20000, 327202);
+    lists_of(1, 3, 3, 560, 1);
+    lists_of(1, 3, 4, 280, 1);
+    lists_of(1, 3, 5, 56, 1);
+    lists_of(1, 4, 3, 280, 1);
+    lists_of(1, 4, 4, 70, 1);
+    lists_of(1, 5, 3, 56, 1);
+    lists_of(2, 3, 4, 20000, 20);
+    lists_of(2, 5, 4, 20000, 72);
+    lists_of(3, 3, 9, 20000, 29745);
+    lists_of(3, 4, 3, 20000, 605);
+    lists_of(3, 9, 9, 20000, 327202);
 }

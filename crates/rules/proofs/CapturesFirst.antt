@@ -1,6 +1,6 @@
 -- The list of moves (document 02, A2), captures first: it has the legal moves, each once; captures stand before all others, and both rise. A
 -- capture removes a stone that the rule of removal names, so a mill that removes nothing is none. Assumes nothing.
-use mathlib.Core.Path.{_≡_, refl, sym, ap, subst, _∙_}
+use mathlib.Core.Path.{_≡_, refl, sym, ap, _∙_}
 use mathlib.Core.Bool.{Bool, true, false, not}
 use mathlib.Core.List.{List, _++_, map, List·Memᴰ}
 use mathlib.Core.Logic.{_⊎_, inl, inr}
@@ -8,9 +8,10 @@ use Prim.Native.Nat.{ℕ, _+_, _*_, _≤_, _<_}
 use native.Mathlib.Omega.{arith}
 use lib.Dec.{eqb}
 use lib.ListN.{length, length-append, getD}
-use borrow.Author.Tests.{eq-eqb, eqb-false}
+use borrow.Author.Tests.{eq-eqb}
 use Rattle.lists.specs.Lists.{keep, member, isEmpty, Rising}
-use Rattle.lists.proofs.Parted.{parted-member, member-parted, parted-length, parted-empty, parted-first, parted-rises, parted-once, keep-map}
+use Rattle.lists.proofs.Keep.{keep-map}
+use Rattle.lists.proofs.Parted.{parted-member, member-parted, parted-length, parted-empty, parted-first, parted-rises, parted-once}
 use Rattle.lists.proofs.Tests.{same-test, clash, member-is, is-member, keep-same}
 use Rattle.board.specs.Board.{Values}
 use Rattle.rules.specs.Ply.{slide, noRemoval, removals, moveNumber, fromOf, toOf, removedOf, slideMoves, moves}
@@ -60,23 +61,19 @@ module _ (ms : List ℕ) where
   unfolding capturesFirst
   listed-empty = parted-empty (λ m. isCapture m) ms
 
-  module _ (i j : ℕ) (before : i < j) (last : j < length (capturesFirst ms)) where
-    -- captures stand before all others
-    pub captures-first : isCapture (getD (capturesFirst ms) j 0) ≡ true → isCapture (getD (capturesFirst ms) i 0) ≡ true
-    unfolding capturesFirst
-    captures-first = parted-first (λ m. isCapture m) ms i j before last
+-- of two places of a list: captures stand before all others, both parts rise, and no number stands twice
+pub record Ordered (list : List ℕ) (i j : ℕ) : Type 0 where
+  pub captures-before : isCapture (getD list j 0) ≡ true → isCapture (getD list i 0) ≡ true
+  pub parts-rise : isCapture (getD list i 0) ≡ isCapture (getD list j 0) → getD list i 0 < getD list j 0
+  pub once : getD list i 0 ≡ getD list j 0 → ⊥
 
-    module _ (rising : Rising ms) where
-      -- both parts rise
-      pub parts-rise : isCapture (getD (capturesFirst ms) i 0) ≡ isCapture (getD (capturesFirst ms) j 0)
-          → getD (capturesFirst ms) i 0 < getD (capturesFirst ms) j 0
-      unfolding capturesFirst
-      parts-rise = parted-rises (λ m. isCapture m) ms i j before last rising
-
-      -- no number twice
-      pub listed-once : getD (capturesFirst ms) i 0 ≡ getD (capturesFirst ms) j 0 → ⊥
-      unfolding capturesFirst
-      listed-once = parted-once (λ m. isCapture m) ms i j before last rising
+listed-ordered : (ms : List ℕ) → Rising ms → (i j : ℕ) → i < j → j < length (capturesFirst ms) → Ordered (capturesFirst ms) i j
+unfolding capturesFirst
+listed-ordered ms rising i j before last = record {
+  captures-before = parted-first (λ m. isCapture m) ms i j before last;
+  parts-rise = parted-rises (λ m. isCapture m) ms i j before last rising;
+  once = parted-once (λ m. isCapture m) ms i j before last rising;
+}
 
 module _ (rule : ℕ → List ℕ → List ℕ) (takes : TakesOpponent rule) (rings : ℕ) (small : rings ≤ 3) where
   -- a capture removes a stone that the rule names
@@ -90,6 +87,11 @@ module _ (rule : ℕ → List ℕ → List ℕ) (takes : TakesOpponent rule) (ri
       go : {c : List ℕ} (r : ℕ) → removedOf n ≡ r → (r ≡ noRemoval) ⊎ List·Memᴰ r (rule rings c) → List·Memᴰ r (rule rings c)
       go r e (inl q) = clash c (not-capture n (e ∙ q))
       go r e (inr k) = k
+
+  -- so is a board's list ordered, for any rule that names opposing stones by rising number
+  pub moves-ordered : RisingRule rule → (b : List ℕ) (i j : ℕ) → i < j → j < length (capturesFirst (moves rule rings b))
+      → Ordered (capturesFirst (moves rule rings b)) i j
+  moves-ordered rises b = listed-ordered (moves rule rings b) (moves-rising rule takes rises rings small b)
 
   -- the captures and the others among the moves of a slide, by what they remove
   module _ (rises : RisingRule rule) (b : List ℕ) (from to : ℕ) where

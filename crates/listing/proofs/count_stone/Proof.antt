@@ -1,5 +1,5 @@
 -- `listing::count_stone` meets its contract. Assumes nothing.
-use mathlib.Core.Path.{_≡_, sym, ap, _∙_}
+use mathlib.Core.Path.{_≡_, ap, _∙_}
 use mathlib.Core.Bool.{Bool, true, false, not}
 use mir.Val.{boolByte}
 use mathlib.Core.List.{List}
@@ -7,8 +7,6 @@ use Prim.Native.Nat.{ℕ, _*_, _≤_}
 use native.Mathlib.Omega.{arith}
 use lib.ListN.{length}
 use borrow.Author.Needs.{needs}
-use Rattle.sets.specs.Sets.{members}
-use Rattle.sets.proofs.Laws.{members-le}
 use Rattle.sets.proofs.Passing.{Counted, counted-none, counted-more, counted-all}
 use Rattle.board.specs.Board.{boardOf}
 use Rattle.rules.specs.Ply.{removable, slideMoves}
@@ -45,14 +43,8 @@ removals-requires c κs =
           (x .loop .inv .0 .among (c .take-lowest .result .lowest) (c .take-lowest .ensures .member)),
     )
 
-without-requires : tie.Need-without-requires Inv-loop μ-loop
-without-requires c κs = search needs
-
-count-requires : tie.Need-count-requires Inv-loop μ-loop
-count-requires c κs = search needs
-
-cast-captures : tie.Need-cast-captures Inv-loop μ-loop
-cast-captures c = omega (arith, c .count .ensures, members-le (c .before .without .result) 32)
+stones-in-requires : tie.Need-stones-in-requires Inv-loop μ-loop
+stones-in-requires c κs = search needs
 
 -- the moves to that point
 found : (c : tie.After-removals Inv-loop μ-loop) → List ℕ
@@ -60,20 +52,19 @@ found c =
     let a = c .before .before .before .before .args in
     slideMoves (λ m b. removable m b) (a .rings) (boardOf (8 * a .rings) (a .position)) (a .from) (c .before .take-lowest .result .lowest)
 
-captures-found : (c : tie.After-count Inv-loop μ-loop) → c .count .result ≡ length (captures (found (c .before .before)))
+captures-found : (c : tie.After-stones-in Inv-loop μ-loop) → c .stones-in .result ≡ length (captures (found (c .before)))
 unfolding found
 captures-found c =
-    let r = c .before .before in
+    let r = c .before in
     let s = r .before .before .before .before in
     let a = s .args in
-    c .count .ensures ∙ ap (λ (x : ℕ). members x 32) (c .before .without .ensures)
-    ∙ captures-count (a .rings) (s .pre .0 .placed .small) (boardOf (8 * a .rings) (a .position)) (a .from) (r .before .take-lowest .result .lowest)
+    c .stones-in .ensures .0 ∙ captures-count (a .rings) (s .pre .0 .placed .small) (boardOf (8 * a .rings) (a .position)) (a .from) (r .before .take-lowest .result .lowest)
     (r .removals .result) (r .removals .ensures)
 
-others-found : (c : tie.After-has Inv-loop μ-loop) → boolByte (c .has .result) ≡ length (others (found (c .before .before .before)))
+others-found : (c : tie.After-has Inv-loop μ-loop) → boolByte (c .has .result) ≡ length (others (found (c .before .before)))
 unfolding found
 others-found c =
-    let r = c .before .before .before in
+    let r = c .before .before in
     let s = r .before .before .before .before in
     let a = s .args in
     others-count (a .rings) (s .pre .0 .placed .small) (boardOf (8 * a .rings) (a .position)) (a .from) (r .before .take-lowest .result .lowest)
@@ -82,25 +73,24 @@ others-found c =
 loop-again : tie.Need-loop-again Inv-loop μ-loop
 unfolding found
 loop-again c =
-    let t = c .before .before .before .before in
+    let t = c .before .before .before in
     let x = t .before .before in
     let a = x .before .args in
     let p : ℕ = t .take-lowest .result .lowest in
     let rest : ℕ = t .take-lowest .result .rest in (
-      counted-more _ (a .tos) (x .loop .captures) (x .loop .left) p rest (c .before .count .result) (x .loop .inv .0) (t .take-lowest .ensures)
+      counted-more _ (a .tos) (x .loop .captures) (x .loop .left) p rest (c .before .stones-in .result) (x .loop .inv .0) (t .take-lowest .ensures)
           (captures-found (c .before)),
       counted-more _ (a .tos) (x .loop .others) (x .loop .left) p rest _ (x .loop .inv .1) (t .take-lowest .ensures) (others-found c),
     )
 
 add-captures : tie.Need-add-captures Inv-loop μ-loop
 add-captures c =
-    let x = c .before .before .before .before .before in
+    let x = c .before .before .before .before in
     let a = x .before .args in
     omega (
       arith,
       x .loop .inv .0 .total,
-      c .count .ensures,
-      members-le (c .before .without .result) 32,
+      c .stones-in .ensures .1,
       stone-few (a .rings) (x .before .pre .0 .placed .small) (boardOf (8 * a .rings) (a .position)) (a .from) (λ m. isCapture m) (a .tos),
     )
 
@@ -112,7 +102,7 @@ cast-others c = search needs
 
 add-others : tie.Need-add-others Inv-loop μ-loop
 add-others c =
-    let x = c .before .before .before .before .before .before in
+    let x = c .before .before .before .before .before in
     let a = x .before .args in
     omega (
       arith,
@@ -122,7 +112,7 @@ add-others c =
     )
 
 loop-less : tie.Need-loop-less Inv-loop μ-loop
-loop-less c = omega (arith, c .before .before .before .before .take-lowest .ensures .less)
+loop-less c = omega (arith, c .before .before .before .take-lowest .ensures .less)
 
 returns : tie.Need-returns Inv-loop μ-loop
 returns c =
@@ -152,9 +142,7 @@ count-stone-spec =
     loop-holds
     take-lowest-requires
     removals-requires
-    without-requires
-    count-requires
-    cast-captures
+    stones-in-requires
     add-captures
     has-requires
     cast-others

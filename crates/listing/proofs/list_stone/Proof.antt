@@ -127,6 +127,9 @@ removals-requires c κs =
 without-requires : tie.Need-without-requires Inv-loop μ-loop
 without-requires c κs = search needs
 
+sub-none : tie.Need-sub-none Inv-loop μ-loop
+sub-none c = omega (arith, c .without .ensures, without-le (c .before .removals .result) 31)
+
 slide-number-requires : tie.Need-slide-number-requires Inv-loop μ-loop
 slide-number-requires c κs =
     let r = c .before in
@@ -156,11 +159,6 @@ list-removals-requires : tie.Need-list-removals-requires Inv-loop μ-loop
 list-removals-requires c κs =
     let n = c .before in
     (base-low n, omega (arith, captures-length n, room n .0, room n .1))
-
-sub-list-removals : tie.Need-sub-list-removals Inv-loop μ-loop
-sub-list-removals c =
-    let w = c .before .before .before .before .before in
-    omega (arith, w .without .ensures, without-le (w .before .removals .result) 31)
 
 list-removals-requires-2 : tie.Need-list-removals-requires-2 Inv-loop μ-loop
 list-removals-requires-2 c κs =
@@ -210,9 +208,9 @@ list-stone-spec =
     take-lowest-requires
     removals-requires
     without-requires
+    sub-none
     slide-number-requires
     list-removals-requires
-    sub-list-removals
     list-removals-requires-2
     loop-less
     loop-again

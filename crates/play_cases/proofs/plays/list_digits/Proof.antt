@@ -1,16 +1,16 @@
--- `play_cases::plays::sum` is safe and ends. Assumes nothing.
+-- `play_cases::plays::list_digits` is safe and ends. Assumes nothing.
 use mathlib.Core.Path.{_≡_}
 use Prim.Native.Nat.{_-_, _≤_}
 use lib.ListN.{length}
 use borrow.Author.Needs.{needs}
-use Rattle.play_cases.proofs.plays.sum.Statement.{statement}
-use Rattle.play_cases.proofs.plays.sum.Tie as tie
+use Rattle.play_cases.proofs.plays.list_digits.Statement.{statement}
+use Rattle.play_cases.proofs.plays.list_digits.Tie as tie
 
 abbrev Inv-loop : tie.InvT-loop
-Inv-loop rings board list n target₀ most s₀ i₀ target s i = (i ≤ most) × (length target ≡ length target₀)
+Inv-loop rings board list n target₀ most digits₀ i₀ target digits i = (i ≤ most) × (length target ≡ length target₀)
 
 abbrev μ-loop : tie.MeasureT-loop
-μ-loop rings board list n target₀ most s₀ i₀ target s i = most - i
+μ-loop rings board list n target₀ most digits₀ i₀ target digits i = most - i
 
 least-requires : tie.Need-least-requires Inv-loop μ-loop
 least-requires c κs = search needs
@@ -30,11 +30,11 @@ next-requires c κs = search needs
 wider-requires : tie.Need-wider-requires Inv-loop μ-loop
 wider-requires c κs = search needs
 
-add-requires : tie.Need-add-requires Inv-loop μ-loop
-add-requires c κs = search needs
+with-digit-requires : tie.Need-with-digit-requires Inv-loop μ-loop
+with-digit-requires c κs = search needs
 
-add-requires-2 : tie.Need-add-requires-2 Inv-loop μ-loop
-add-requires-2 c κs = search needs
+with-digit-requires-2 : tie.Need-with-digit-requires-2 Inv-loop μ-loop
+with-digit-requires-2 c κs = search needs
 
 add-i : tie.Need-add-i Inv-loop μ-loop
 add-i c = search needs
@@ -51,8 +51,8 @@ same-length c = search needs
 returns : tie.Need-returns Inv-loop μ-loop
 returns c = search needs
 
-pub sum-spec : {M : Type 1} → statement M
-sum-spec =
+pub list-digits-spec : {M : Type 1} → statement M
+list-digits-spec =
     tie.close
     (tie.spec
     Inv-loop
@@ -63,8 +63,8 @@ sum-spec =
     shared-slice-read-number
     next-requires
     wider-requires
-    add-requires
-    add-requires-2
+    with-digit-requires
+    with-digit-requires-2
     add-i
     loop-less
     loop-again
