@@ -17,8 +17,9 @@ LOOKUPS = (
 )
 
 BEST_MOVES = (
-    # Document 01's two boards; the last listed of three wins, a draw rather than a loss; a blocked mover.
-    (1, "02122011", 5), (1, "11120202", 5), (1, "01121222", 5), (1, "00121122", 5), (1, "11112222", 5),
+    # Document 01's two boards; the last listed of three wins, a draw rather than a loss, a capture before a lower number of
+    # equal worth; a blocked mover.
+    (1, "02122011", 5), (1, "11120202", 5), (1, "01121222", 5), (1, "00121122", 5), (1, "01221221", 5), (1, "11112222", 5),
     # Each refusal but 12, and the first of two.
     (0, "011", 5), (1, "2122011", 5), (1, "02322011", 5), (1, "02022011", 2), (1, "11212121", 4), (1, "11112222", 4),
 )

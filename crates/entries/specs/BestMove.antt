@@ -1,5 +1,6 @@
 -- The best move of a board in a tablebase (document 01: "A best move is the first listed among: quickest win, else a draw, else longest loss, judged
--- by the successors' entries"), and the board that it leads to. Assumes nothing.
+-- by the successors' entries"), and the board that it leads to. Document 02, A2: "First listed" follows the list with captures first. Assumes
+-- nothing.
 use mathlib.Core.List.{List}
 use Prim.Native.Nat.{ℕ}
 use Rattle.rules.specs.MoveList.{listedMoves}

@@ -72,13 +72,14 @@ fn lookups(tablebase: &[u16]) {
     lookup(1, 8, 02122011, 4, tablebase);
 }
 
-// Document 01's two boards; the last listed of three wins, a draw rather than a loss; a blocked mover. Then each refusal but 12,
-// and the first of two.
+// Document 01's two boards; the last listed of three wins, a draw rather than a loss, a capture before a lower number of equal worth; a
+// blocked mover. Then each refusal but 12, and the first of two.
 fn best_moves(tablebase: &[u16]) {
     best_move(1, 8, 02122011, 5, tablebase);
     best_move(1, 8, 11120202, 5, tablebase);
     best_move(1, 8, 01121222, 5, tablebase);
     best_move(1, 8, 00121122, 5, tablebase);
+    best_move(1, 8, 01221221, 5, tablebase);
     best_move(1, 8, 11112222, 5, tablebase);
     best_move(0, 3, 011, 5, tablebase);
     best_move(1, 7, 2122011, 5, tablebase);

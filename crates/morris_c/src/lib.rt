@@ -32,7 +32,7 @@ pub extern "C" fn morris_unrank(
     numbers::unranked(morris::unrank(rings, mover, opponent, rank, target))
 }
 
-// Lists a board's moves at the start of the list, and says how many.
+// Lists a board's moves, captures first, at the start of the list, and says how many.
 #[no_mangle]
 pub extern "C" fn morris_moves(rings: u8, board: &[u8], moves: &mut [u16], count: &mut usize) -> u8
     ensures refusal { λ r. ⌜ r ≡ numberOf (movesCall rings (now (board .entry)) (now (moves .entry))) ⌝ }

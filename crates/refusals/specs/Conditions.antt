@@ -63,7 +63,7 @@ targetShort room n = ltb room n
 abbrev pub rankWrong : ℕ → ℕ → ℕ → ℕ → Bool
 rankWrong points m o r = leb (size points m o) r
 
--- 8: not a listed move
+-- 8: not a listed move, whatever the order of the list
 abbrev pub moveWrong : ℕ → List ℕ → ℕ → Bool
 moveWrong rings b move = not (member move (legalMoves rings b))
 
