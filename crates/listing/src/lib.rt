@@ -12,7 +12,7 @@ ghost use Rattle.plies.specs.Inner.Listing.{legalFrom};
 ghost use Rattle.plies.specs.Inner.Positions.{Playable, Slides};
 ghost use Rattle.listing.specs.Inner.Places.{dealt, Room};
 
-// The point that stands for no removal.
+// The point that stands for no removal; `plies::NO_REMOVAL` is the set of it.
 const NO_STONE: usize = 31;
 
 // How many of a position's moves are captures, and how many are not.
@@ -136,7 +136,7 @@ fn list_stone(
     Places { captures, others }
 }
 
-// Writes the moves of a position at the start of a list that has room for them: the captures, and from their number on the others.
+// Writes the moves of a position at the start of a list that has room for them: the captures, then the others from the place where those end.
 pub fn list_moves(
     rings: usize,
     masks: &[u32; 72],

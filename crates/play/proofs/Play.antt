@@ -1,10 +1,10 @@
--- The calls `moves` and `make_move` together: a list of 324 places is never too short, each listed move is made, and the board after it is accepted
--- again unless its mover is left with two stones. Assumes nothing.
+-- The calls `moves` and `make_move` together: a list of 324 places is never too short, it has captures first, each listed move is made, and the board
+-- after it is accepted again unless its mover is left with two stones. Assumes nothing.
 use mathlib.Core.Path.{_≡_, sym, ap, _∙_}
 use mathlib.Core.Bool.{Bool, true, cond, not}
 use mathlib.Core.List.{List, [], _∷_}
 use mathlib.Core.Logic.{inl, inr}
-use Prim.Native.Nat.{ℕ, _*_, _≤_}
+use Prim.Native.Nat.{ℕ, _*_, _≤_, _<_}
 use native.Mathlib.Omega.{arith}
 use lib.ListN.{length}
 use lib.Seq.{sets}
@@ -16,9 +16,10 @@ use Rattle.board.proofs.Counts.{count-all}
 use Rattle.rules.specs.MoveList.{listedMoves}
 use Rattle.rules.specs.Ply.{removable, legalMoves, removedOf, afterPly}
 use Rattle.rules.proofs.Bound.{listed-bound}
-use Rattle.rules.proofs.CapturesFirst.{member-listed}
+use Rattle.rules.proofs.CapturesFirst.{Ordered, moves-ordered, member-listed}
 use Rattle.rules.proofs.Listed.{removable-takes}
 use Rattle.rules.proofs.Leads.{MoverLeft, ply-leads}
+use Rattle.rules.proofs.Rises.{removable-rising}
 use Rattle.refusals.specs.Refusals.{refusal}
 use Rattle.refusals.specs.Conditions.{boardPicks, targetPicks, movePicks, shortPicks}
 use Rattle.answers.specs.Answers.{accepted}
@@ -46,6 +47,10 @@ module _ (rings : ℕ) (b : List ℕ) (e : refusal (boardPicks rings b) ≡ 0) w
         sym (answer-accepted (refusal (shortPicks rings b (length old) n)) (n ∷ []) z),
         sym (target-written (refusal (shortPicks rings b (length old) n)) (sets old 0 (listedMoves rings b)) old z),
       )
+
+  -- it is ordered: captures before all others, both parts by rising number, no number twice
+  pub list-ordered : (i j : ℕ) → i < j → j < length (listedMoves rings b) → Ordered (listedMoves rings b) i j
+  list-ordered = moves-ordered (λ n c. removable n c) removable-takes rings (board .rings-high) removable-rising b
 
   module _ (move : ℕ) (listed : member move (listedMoves rings b) ≡ true) where
     legal : member move (legalMoves rings b) ≡ true
