@@ -45,5 +45,5 @@ module _ (rings : ℕ) (small : rings ≤ 3) (b : List ℕ) (from to s : ℕ) (t
 
   pub others-count : (t : Bool) → t ≡ has s noRemoval → boolByte t ≡ length (others (slideMoves rule rings b from to))
   others-count t e =
-      has-digit 32 s noRemoval t e ∙ sym (length-only 32 s noRemoval (omega arith))
+      has-digit s noRemoval t e ∙ sym (length-only 32 s noRemoval (omega arith))
       ∙ sym (length-map (elements 32 (s - without s noRemoval)) (λ p. moveNumber from to p)) ∙ ap length others-from
