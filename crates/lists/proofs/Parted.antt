@@ -18,9 +18,11 @@ use Rattle.lists.proofs.Rises.{rising-keep, rising-once}
 use Rattle.lists.proofs.Tests.{clash}
 
 module _ {A : Type 0} (f : A → Bool) where
+  -- the members that fail
   abbrev pub failing : List A → List A
   failing l = keep (λ x. not (f x)) l
 
+  -- those that pass, then those that fail
   abbrev pub parted : List A → List A
   parted l = keep f l ++ failing l
 
@@ -62,9 +64,9 @@ module _ (f : ℕ → Bool) (l : List ℕ) where
     passes : i < length (keep f l) → x ≡ getD (keep f l) i 0 → f x ≡ true → Stands i x
     fails : (j : ℕ) → i ≡ length (keep f l) + j → j < length (failing f l) → x ≡ getD (failing f l) j 0 → f x ≡ false → Stands i x
 
-  untold : (b : Bool) → not b ≡ true → b ≡ false
-  untold true e = clash refl (sym e)
-  untold false e = refl
+  false-of-not : (b : Bool) → not b ≡ true → b ≡ false
+  false-of-not true e = clash refl (sym e)
+  false-of-not false e = refl
 
   stands : (i : ℕ) → i < length (parted f l) → Stands i (getD (parted f l) i 0)
   stands i h = go (ltb i (length (keep f l))) refl
@@ -75,7 +77,7 @@ module _ (f : ℕ → Bool) (l : List ℕ) where
           let at : getD (parted f l) i 0 ≡ getD (failing f l) j 0 =
           ap (λ (k : ℕ). getD (parted f l) k 0) e ∙ getD-append-add (keep f l) (failing f l) j 0 in
           fails j e low at
-          (ap f at ∙ untold _ (keep-member (λ y. not (f y)) l (getD-member (failing f l) j low) .1))
+          (ap f at ∙ false-of-not _ (keep-member (λ y. not (f y)) l (getD-member (failing f l) j low) .1))
 
       go : (b : Bool) → ltb i (length (keep f l)) ≡ b → Stands i (getD (parted f l) i 0)
       go false b = second (i - length (keep f l)) (omega (arith, ltb-false i (length (keep f l)) b))

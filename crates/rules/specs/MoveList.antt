@@ -11,6 +11,7 @@ use Rattle.rules.specs.Ply.{noRemoval, removedOf, legalMoves}
 unfoldable pub isCapture : ℕ → Bool
 isCapture move = not (eqb (removedOf move) noRemoval)
 
+-- "all moves with a removal"
 abbrev pub captures : List ℕ → List ℕ
 captures ms = keep (λ move. isCapture move) ms
 
