@@ -10,7 +10,7 @@ use lib.Dec.{eqb}
 use borrow.Author.Tests.{eqb-true, eq-eqb}
 use Rattle.lists.specs.Lists.{any, isEmpty}
 use Rattle.lists.proofs.Members.{map-member, member-map, map-same}
-use Rattle.lists.proofs.Tests.{same-test, clash, any-member, member-any}
+use Rattle.lists.proofs.Tests.{same-test, clash, any-member, member-any, empty-map}
 use Rattle.game.specs.Game.{drawEntry}
 use Rattle.game.specs.Judgement.{isLost}
 use Rattle.game.proofs.Entries.{lost-is}
@@ -91,10 +91,6 @@ best-member es some = go (any (λ x. isLost x) es) refl (any (λ x. eqb x drawEn
 pub best-listed : (f : ℕ → ℕ) (ms : List ℕ) → isEmpty ms ≡ false → List·Memᴰ (bestMove f ms) ms × (f (bestMove f ms) ≡ bestEntry (map f ms))
 unfolding bestMove
 best-listed f ms some =
-    let (x, i, p) = map-member f ms (best-member (map f ms) (filled ms some)) in
+    let (x, i, p) = map-member f ms (best-member (map f ms) (empty-map f ms ∙ some)) in
     let s = first-passes (λ m. eqb (f m) (bestEntry (map f ms))) ms x i (eq-eqb (f x) _ (sym p)) in
     (s .0, eqb-true _ _ (s .1))
-  where
-    filled : (l : List ℕ) → isEmpty l ≡ false → isEmpty (map f l) ≡ false
-    filled [] e = e
-    filled (y ∷ ys) e = refl

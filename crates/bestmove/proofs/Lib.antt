@@ -1,3 +1,4 @@
+pub mod AnyOrder
 pub mod Choice
 pub mod FirstGreatest
 pub mod MoveEntries

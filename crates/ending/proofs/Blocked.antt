@@ -1,7 +1,7 @@
 -- Level 0 place by place, as the code goes: closed, blocked, or free to move. Assumes nothing.
 use mathlib.Core.Path.{_≡_, refl, sym, ap, _∙_}
 use mathlib.Core.Bool.{Bool, true, false, _&&_}
-use mathlib.Core.List.{List, [], _∷_, map}
+use mathlib.Core.List.{List}
 use Prim.Native.Nat.{ℕ, zero, suc, _+_, _-_, _*_, _≤_, _<_}
 use native.Mathlib.Numerals.{add-one}
 use native.Mathlib.Omega.{arith}
@@ -10,7 +10,7 @@ use lib.ListN.{length, set, length-set}
 use lib.Seq.{getD-set-other, set-comm}
 use borrow.Author.Tests.{eqb-true, ltb-true}
 use Rattle.lists.specs.Lists.{isEmpty}
-use Rattle.lists.proofs.Tests.{and-left, and-right}
+use Rattle.lists.proofs.Tests.{and-left, and-right, empty-map}
 use Rattle.sizes.specs.Size.{size}
 use Rattle.ranking.specs.Unrank.{unrank}
 use Rattle.ranking.proofs.Inverse.{rank-unrank}
@@ -22,10 +22,6 @@ use Rattle.outcomes.specs.Whole.{next}
 use Rattle.tables.specs.declared.Table.{Table}
 use Rattle.deciding.specs.Inner.Open.{isOpen}
 use Rattle.ending.specs.Inner.Blocked.{blockedPlace, blockedFirst, blockedRange, allFree}
-
-empty-map : {A B : Type 0} (f : A → B) (l : List A) → isEmpty (map f l) ≡ isEmpty l
-empty-map f [] = refl
-empty-map f (x ∷ l) = refl
 
 -- a board without a move has no successor
 pub no-successor : (rings : ℕ) (b : List ℕ) → isEmpty (legalMoves rings b) ≡ isEmpty (next rings b)

@@ -202,3 +202,7 @@ module _ {A : Type 0} where
   pub first-member : (l : List A) → isEmpty l ≡ false → (x : A) × List·Memᴰ x l
   first-member [] e = absurd (true≢false e)
   first-member (y ∷ ys) e = (y, List·Memᴰ·head refl)
+
+pub empty-map : {A B : Type 0} (f : A → B) (l : List A) → isEmpty (map f l) ≡ isEmpty l
+empty-map f [] = refl
+empty-map f (x ∷ l) = refl
