@@ -6,8 +6,10 @@ use tables::Starts;
 // The keys of the entries that are not won start here: the lost ones by depth, then void and draw.
 pub const NOT_WON: u32 = 65536;
 
-// The tables of the successors, by where they start, and the keys that are asked for: from low on and below high.
+// The edition, for it says which successors a position has; their tables, by where they start; and the keys that are asked for: from low on and below
+// high.
 pub struct Question {
+    pub edition: u8,
     pub starts: Starts,
     pub low: u32,
     pub high: u32,

@@ -1,14 +1,13 @@
 // Whether one of the moves of a slide, or of a stone, leads to an entry that is asked for: one move after the other, and no further than the first
 // that does.
 ghost use mathlib.Core.Path.{_≡_};
-ghost use mathlib.Core.Bool.{true};
 ghost use Prim.Native.Nat.{_+_, _*_};
 ghost use lib.ListN.{length};
-ghost use Rattle.lists.specs.Lists.{any, member};
+ghost use Rattle.lists.specs.Lists.{any};
 ghost use Rattle.sets.specs.Sets.{elements};
 ghost use Rattle.board.specs.Board.{boardOf};
-ghost use Rattle.rules.specs.Ply.{destinations, afterPly, legalMoves};
-ghost use Rattle.plies.specs.Inner.Listing.{legalFrom};
+ghost use Rattle.rules.specs.Ply.{removable, destinations, stoneMoves, afterPly};
+ghost use Rattle.rules.specs.Inner.Making.{Makeable};
 ghost use Rattle.probing.specs.Inner.Conditions.{Probing};
 ghost use Rattle.asking.specs.Inner.Questions.{Movable, Removing, entryAsked};
 use super::ranges::Question;
@@ -20,7 +19,7 @@ pub struct Stone {
     pub tos: u32,
 }
 
-// Whether a listed move leads to a position whose entry is asked for.
+// Whether a move leads to a position whose entry is asked for.
 fn leads(
     tablebase: &[u16],
     binomials: &[u32; 625],
@@ -30,7 +29,7 @@ fn leads(
     number: usize,
 ) -> bool
     requires { ⌜ Probing (now binomials) (length (now tablebase)) rings (question .starts) position ⌝ }
-    requires { ⌜ member number (legalMoves rings (boardOf (8 * rings) position)) ≡ true ⌝ }
+    requires { ⌜ Makeable rings (boardOf (8 * rings) position) number ⌝ }
     ensures { λ r. ⌜ r ≡ entryAsked (now (tablebase .entry)) question (boardOf (8 * rings) position) (afterPly (boardOf (8 * rings) position) number) ⌝ }
 {
     let entry = probing::entry_after_move(
@@ -77,7 +76,7 @@ pub fn some_removal(
     false
 }
 
-// Whether some move of one stone, to the set of its destinations, leads to such a position.
+// Whether some move of one stone under the question's edition, to the set of its destinations, leads to such a position.
 pub fn some_slide(
     tablebase: &[u16],
     binomials: &[u32; 625],
@@ -91,12 +90,20 @@ pub fn some_slide(
     requires { ⌜ Movable rings (now masks) position stone ⌝ }
     ensures { λ r. ⌜ r ≡ any (λ m. entryAsked (now (tablebase .entry)) question (boardOf (8 * rings) position)
         (afterPly (boardOf (8 * rings) position) m))
-        (legalFrom rings (boardOf (8 * rings) position) (stone .from) (destinations rings (boardOf (8 * rings) position) (stone .from))) ⌝ }
+        (stoneMoves (removable (question .edition)) rings (boardOf (8 * rings) position) (stone .from)
+        (destinations rings (boardOf (8 * rings) position) (stone .from))) ⌝ }
 {
     let mut left = stone.tos;
     while left != 0 {
         let to = sets::take_lowest(left);
-        let removals = plies::removals(rings, masks, position, stone.from, to.lowest);
+        let removals = plies::removals(
+            rings,
+            question.edition,
+            masks,
+            position,
+            stone.from,
+            to.lowest,
+        );
         if some_removal(
             tablebase,
             binomials,

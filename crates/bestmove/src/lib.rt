@@ -2,15 +2,15 @@
 ghost use mathlib.Core.Path.{_≡_};
 ghost use mathlib.Core.Bool.{true, false};
 ghost use mathlib.Core.List.{map};
-ghost use Prim.Native.Nat.{_*_, _≤_};
+ghost use Prim.Native.Nat.{_*_};
 ghost use lib.Dec.{ltb};
 ghost use lib.ListN.{length};
-ghost use Rattle.lists.specs.Lists.{member};
 ghost use Rattle.board.specs.Board.{count, boardOf};
-ghost use Rattle.rules.specs.Ply.{legalMoves};
+ghost use Rattle.rules.specs.Ply.{removable};
+ghost use Rattle.rules.specs.Inner.Making.{Makeable};
 ghost use Rattle.rules.specs.MoveList.{listedMoves};
 ghost use Rattle.probing.specs.Inner.Conditions.{Probing};
-ghost use Rattle.bestmove.specs.Inner.Choosing.{NoneVoid, Choosing};
+ghost use Rattle.bestmove.specs.Inner.Choosing.{NoneVoid, Candidates, Choosing};
 ghost use Rattle.bestmove.specs.Best.{bestEntry, bestMove};
 ghost use Rattle.bestmove.specs.Inner.Worth.{entryBy, worth};
 use tables::Starts;
@@ -49,7 +49,7 @@ fn better(first: Best, second: Best) -> Best
     first
 }
 
-// A listed move with the entry that it leads to.
+// A move with the entry that it leads to.
 fn with_entry(
     tablebase: &[u16],
     binomials: &[u32; 625],
@@ -59,7 +59,7 @@ fn with_entry(
     number: u16,
 ) -> Best
     requires { ⌜ Probing (now binomials) (length (now tablebase)) rings starts position ⌝ }
-    requires { ⌜ member number (legalMoves rings (boardOf (8 * rings) position)) ≡ true ⌝ }
+    requires { ⌜ Makeable rings (boardOf (8 * rings) position) number ⌝ }
     ensures { λ r. ⌜ (r .number ≡ number) × (r .entry ≡ entryBy (now (tablebase .entry)) (starts .same) (starts .fewer) (boardOf
         (8 * rings) position) number) ⌝ }
 {
@@ -76,7 +76,7 @@ fn with_entry(
     }
 }
 
-// The best of a position's moves, given as their list.
+// The best of some moves of a position, given as a list.
 fn best_of(
     tablebase: &[u16],
     binomials: &[u32; 625],
@@ -85,13 +85,13 @@ fn best_of(
     position: board::Position,
     moves: &[u16],
 ) -> Best
-    requires { ⌜ NoneVoid (now tablebase) (now binomials) rings starts position ⌝ }
-    requires { ⌜ (1 ≤ length (now moves)) × (now moves ≡ listedMoves rings (boardOf (8 * rings) position)) ⌝ }
+    requires { ⌜ Probing (now binomials) (length (now tablebase)) rings starts position ⌝ }
+    requires { ⌜ Candidates (now tablebase) rings starts position (now moves) ⌝ }
     ensures number { λ r. ⌜ r .number ≡ bestMove (λ m. entryBy (now (tablebase .entry)) (starts .same) (starts .fewer) (boardOf (8 * rings) position) m)
-        (listedMoves rings (boardOf (8 * rings) position)) ⌝ }
+        (now (moves .entry)) ⌝ }
     ensures entry { λ r. ⌜ r .entry ≡ bestEntry (map (λ m. entryBy (now (tablebase .entry)) (starts .same) (starts .fewer) (boardOf
         (8 * rings) position) m)
-        (listedMoves rings (boardOf (8 * rings) position))) ⌝ }
+        (now (moves .entry))) ⌝ }
 {
     let mut best = with_entry(tablebase, binomials, rings, starts, position, moves[0]);
     let mut i = 1;
@@ -103,27 +103,28 @@ fn best_of(
     best
 }
 
-// The best move of a position that has a move and no successor whose entry is void.
+// The best move under an edition of a position that has a move and no successor whose entry is void.
 pub fn best_move(
     tablebase: &[u16],
     binomials: &[u32; 625],
     masks: &[u32; 72],
     rings: usize,
+    edition: u8,
     starts: Starts,
     position: board::Position,
 ) -> Best
-    requires { ⌜ NoneVoid (now tablebase) (now binomials) rings starts position ⌝ }
+    requires { ⌜ NoneVoid (removable edition) (now tablebase) (now binomials) rings starts position ⌝ }
     requires { ⌜ Choosing rings (now masks) position ⌝ }
     ensures number { λ r. ⌜ r .number ≡ bestMove (λ m. entryBy (now (tablebase .entry)) (starts .same) (starts .fewer) (boardOf (8 * rings) position) m)
-        (listedMoves rings (boardOf (8 * rings) position)) ⌝ }
+        (listedMoves (removable edition) rings (boardOf (8 * rings) position)) ⌝ }
     ensures entry { λ r. ⌜ r .entry ≡ bestEntry (map (λ m. entryBy (now (tablebase .entry)) (starts .same) (starts .fewer) (boardOf
         (8 * rings) position) m)
-        (listedMoves rings (boardOf (8 * rings) position))) ⌝ }
+        (listedMoves (removable edition) rings (boardOf (8 * rings) position))) ⌝ }
 {
-    let counts = listing::count_moves(rings, masks, position);
+    let counts = listing::count_moves(rings, edition, masks, position);
     let count = counts.captures + counts.others;
     let mut list = [0u16; MOVES_MAX];
-    listing::list_moves(rings, masks, position, counts.captures, &mut list);
+    listing::list_moves(rings, edition, masks, position, counts.captures, &mut list);
     best_of(
         tablebase,
         binomials,

@@ -1,18 +1,25 @@
-// The first refusal that rings and a board meet, or rings and counts, with a target or without.
+// The first refusal that rings and a board meet, or rings and counts, with an edition and a target or without.
 ghost use mathlib.Core.Path.{_≡_};
 ghost use Prim.Native.Nat.{_≤_};
 ghost use lib.ListN.{length};
 ghost use Rattle.sets.specs.Sets.{members};
 ghost use Rattle.board.specs.Board.{count};
 ghost use Rattle.refusals.specs.Refusals.{refusal};
-ghost use Rattle.refusals.specs.Conditions.{ringsWrong, valueWrong, countsWrong};
-ghost use Rattle.refusals.specs.Conditions.{boardPicks, stonesPicks, countsPicks, targetPicks};
+ghost use Rattle.refusals.specs.Conditions.{ringsWrong, editionWrong, valueWrong, countsWrong};
+ghost use Rattle.refusals.specs.Conditions.{boardPicks, editionPicks, ruledPicks, stonesPicks, countsPicks, targetPicks};
 
 // Rings other than 1, 2 or 3.
 pub fn rings_wrong(rings: u8) -> bool
     ensures { λ r. ⌜ r ≡ ringsWrong rings ⌝ }
 {
     (rings < 1) | (3 < rings)
+}
+
+// An edition other than 1 or 2.
+fn edition_wrong(edition: u8) -> bool
+    ensures { λ r. ⌜ r ≡ editionWrong edition ⌝ }
+{
+    (edition < 1) | (2 < edition)
 }
 
 // A value above 2.
@@ -72,11 +79,35 @@ pub fn of_board(rings: u8, board: &[u8]) -> u8
     0
 }
 
-// The first refusal that rings, a board and a target of so many bytes meet, or 0.
-pub fn of_target(rings: u8, board: &[u8], room: usize) -> u8
-    ensures { λ r. ⌜ r ≡ refusal (targetPicks rings (now (board .entry)) room) ⌝ }
+// The first refusal that rings and an edition meet, or 0.
+pub fn of_edition(rings: u8, edition: u8) -> u8
+    ensures { λ r. ⌜ r ≡ refusal (editionPicks rings edition) ⌝ }
 {
-    let refusal = of_board(rings, board);
+    if rings_wrong(rings) {
+        return refusals::RINGS;
+    }
+    if edition_wrong(edition) {
+        return refusals::EDITION;
+    }
+    0
+}
+
+// The first refusal that rings, an edition and a board meet, or 0.
+pub fn of_ruled(rings: u8, edition: u8, board: &[u8]) -> u8
+    ensures { λ r. ⌜ r ≡ refusal (ruledPicks rings edition (now (board .entry))) ⌝ }
+{
+    let refusal = of_edition(rings, edition);
+    if refusal != 0 {
+        return refusal;
+    }
+    of_board(rings, board)
+}
+
+// The first refusal that rings, an edition, a board and a target of so many bytes meet, or 0.
+pub fn of_target(rings: u8, edition: u8, board: &[u8], room: usize) -> u8
+    ensures { λ r. ⌜ r ≡ refusal (targetPicks rings edition (now (board .entry)) room) ⌝ }
+{
+    let refusal = of_ruled(rings, edition, board);
     if refusal != 0 {
         return refusal;
     }

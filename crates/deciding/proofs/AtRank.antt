@@ -8,9 +8,9 @@ use Rattle.board.specs.Board.{positionOf, boardOf, count}
 use Rattle.sizes.specs.Size.{size}
 use Rattle.ranking.specs.Unrank.{unrank}
 use Rattle.ranking.proofs.Inverse.{rank-unrank}
+use Rattle.rules.specs.Ply.{Rule, successors}
 use Rattle.plies.specs.Inner.Positions.{Placed}
 use Rattle.game.specs.Judgement.{hit, decided}
-use Rattle.outcomes.specs.Whole.{next}
 use Rattle.tables.specs.declared.Table.{Table}
 use Rattle.probing.specs.Inner.Probes.{probe, Reads}
 use Rattle.seeking.proofs.Positions.{placed-at}
@@ -36,22 +36,27 @@ at-rank n rings t same r p f h e =
           (subst (λ (y : ℕ). Reads n (8 * rings) (t .mover) y same (t .lower .start)) (sym (ap (count 2) is ∙ w .opponent)) (f .reads));
     }
 
-module _ (rings : ℕ) (t : Table) (same r : ℕ) (now : List ℕ) where
+module _ (rule : Rule) (rings : ℕ) (t : Table) (same r : ℕ) (now : List ℕ) where
   -- what was read of the successors is what the level goes by
   module _ (n : ℕ) (p : Position) (w : AtRank n rings t same r p) where
-    pub hit-at : (level : ℕ) → hit (next rings) (λ b. probe now same (t .lower .start) (count 2 (boardOf (8 * rings) p)) b) level (boardOf (8 * rings) p)
-        ≡ hit (next rings) (judged rings t same now) level (boardAt rings t same r)
-    hit-at level = ap₂ (λ (y : ℕ) (c : List ℕ). hit (next rings) (λ b. probe now same (t .lower .start) y b) level c) (w .opponent-is) (w .board-is)
+    pub hit-at : (level : ℕ) → hit (successors rule rings) (λ b. probe now same (t .lower .start) (count 2 (boardOf (8 * rings) p)) b) level
+        (boardOf (8 * rings) p)
+        ≡ hit (successors rule rings) (judged rings t same now) level (boardAt rings t same r)
+    hit-at level = ap₂ (λ (y : ℕ) (c : List ℕ). hit (successors rule rings) (λ b. probe now same (t .lower .start) y b) level c) (w .opponent-is)
+        (w .board-is)
 
-    pub decided-at : decided (next rings) (λ b. probe now same (t .lower .start) (count 2 (boardOf (8 * rings) p)) b) (boardOf (8 * rings) p)
-        ≡ decided (next rings) (judged rings t same now) (boardAt rings t same r)
-    decided-at = ap₂ (λ (y : ℕ) (c : List ℕ). decided (next rings) (λ b. probe now same (t .lower .start) y b) c) (w .opponent-is) (w .board-is)
+    pub decided-at : decided (successors rule rings) (λ b. probe now same (t .lower .start) (count 2 (boardOf (8 * rings) p)) b)
+        (boardOf (8 * rings) p)
+        ≡ decided (successors rule rings) (judged rings t same now) (boardAt rings t same r)
+    decided-at = ap₂ (λ (y : ℕ) (c : List ℕ). decided (successors rule rings) (λ b. probe now same (t .lower .start) y b) c) (w .opponent-is)
+        (w .board-is)
 
-  pub closed-undecided : isOpen t now r ≡ false → false ≡ openDecided rings t same now r
+  pub closed-undecided : isOpen t now r ≡ false → false ≡ openDecided rule rings t same now r
   unfolding openDecided
   closed-undecided e = rw (e, openDecided)
 
-  pub open-decided : isOpen t now r ≡ true → (d : Bool) → d ≡ decided (next rings) (judged rings t same now) (boardAt rings t same r) → d ≡ openDecided rings
+  pub open-decided : isOpen t now r ≡ true → (d : Bool) → d ≡ decided (successors rule rings) (judged rings t same now) (boardAt rings t same r)
+      → d ≡ openDecided rule rings
       t same now r
   unfolding openDecided
   open-decided e d h = rw (e, openDecided) h

@@ -3,6 +3,7 @@ ghost use mathlib.Core.Path.{_≡_};
 ghost use Prim.Native.Nat.{_+_, _-_, _*_, _<_};
 ghost use lib.ListN.{length};
 ghost use Rattle.sizes.specs.Size.{size};
+ghost use Rattle.rules.specs.Ply.{removable};
 ghost use Rattle.probing.specs.Inner.Conditions.{Lent};
 ghost use Rattle.deciding.specs.Inner.Fits.{Fits};
 ghost use Rattle.deciding.specs.Inner.Open.{isOpen, openDecided, Found};
@@ -25,13 +26,14 @@ fn open_decided(
     binomials: &[u32; 625],
     masks: &[u32; 72],
     rings: usize,
+    edition: u8,
     table: Table,
     same: usize,
     r: usize,
 ) -> bool
     requires { ⌜ Lent rings (now binomials) (now masks) ⌝ }
     requires { ⌜ Fits (length (now tablebase)) rings table same × (r < size (8 * rings) (table .mover) (table .opponent)) ⌝ }
-    ensures { λ b. ⌜ b ≡ openDecided rings table same (now (tablebase .entry)) r ⌝ }
+    ensures { λ b. ⌜ b ≡ openDecided (removable edition) rings table same (now (tablebase .entry)) r ⌝ }
 {
     if is_open(tablebase, table, r) {
         let position = ranking::unrank(binomials, 8 * rings, table.mover, table.opponent, r);
@@ -41,6 +43,7 @@ fn open_decided(
             binomials,
             masks,
             rings,
+            edition,
             Starts {
                 same: same,
                 fewer: lower.start,
@@ -57,18 +60,19 @@ pub fn some_decided(
     binomials: &[u32; 625],
     masks: &[u32; 72],
     rings: usize,
+    edition: u8,
     table: Table,
     same: usize,
 ) -> bool
     requires { ⌜ Lent rings (now binomials) (now masks) ⌝ }
     requires { ⌜ Fits (length (now tablebase)) rings table same ⌝ }
-    ensures { λ b. ⌜ Found (openDecided rings table same (now (tablebase .entry))) (size (8 * rings) (table .mover) (table .opponent)) b ⌝ }
+    ensures { λ b. ⌜ Found (openDecided (removable edition) rings table same (now (tablebase .entry))) (size (8 * rings) (table .mover) (table .opponent)) b ⌝ }
 {
     let own = table.own;
     let size = own.end - own.start;
     let mut r = 0;
     while r < size {
-        if open_decided(tablebase, binomials, masks, rings, table, same, r) {
+        if open_decided(tablebase, binomials, masks, rings, edition, table, same, r) {
             return true;
         }
         r += 1;

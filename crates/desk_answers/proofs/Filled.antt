@@ -11,6 +11,8 @@ use Rattle.board.specs.Board.{count}
 use Rattle.ranking.specs.Rank.{rank}
 use Rattle.layout.specs.Layout.{tablebaseLength}
 use Rattle.frames.specs.Frame.{ringsIn, boardIn}
+use Rattle.rules.specs.Ply.{removable}
+use Rattle.rules.proofs.Listed.{removable-takes}
 use Rattle.outcomes.specs.Whole.{TrueEntry}
 use Rattle.outcomes.specs.Filled.{AllTables}
 use Rattle.outcomes.specs.Order.{TrueEntries}
@@ -30,7 +32,7 @@ use Rattle.rank_calls.proofs.Answered.{rank-answered}
 use Rattle.frame_calls.proofs.Answered.{frame-given}
 use Rattle.entry_calls.proofs.Answered.{entry-true, entry-answered, blocked-answered, best-answered}
 use Rattle.text.specs.declared.Field.the-variants.{Number, Absent}
-use Rattle.fields.specs.Fields.{largestCount, fieldOf, entryField, moveField}
+use Rattle.fields.specs.Fields.{largestCount, deskEdition, fieldOf, entryField, moveField}
 
 -- the rank that is shown is the board's
 pub rank-shown : (rings : ℕ) (b : List ℕ) → refusal (boardPicks rings b) ≡ 0 → value (rankCall rings b) 0 ≡ rank b
@@ -39,16 +41,16 @@ rank-shown rings b e = ap (λ (a : Answer). value a 0) (rank-answered rings b e)
 -- what is shown of a board on one ring
 pub record Shown (tablebase b : List ℕ) : Type 0 where
   pub entry : entryField tablebase 1 b ≡ Number (entryAt 1 largestCount tablebase b)
-  pub entry-true : TrueEntry 1 b (entryAt 1 largestCount tablebase b)
+  pub entry-true : TrueEntry (removable deskEdition) 1 b (entryAt 1 largestCount tablebase b)
   pub blocked : moverBlocked 1 b ≡ true → moveField tablebase 1 b ≡ Absent
-  pub free : moverBlocked 1 b ≡ false → moveField tablebase 1 b ≡ Number (bestListed 1 largestCount tablebase b)
+  pub free : moverBlocked 1 b ≡ false → moveField tablebase 1 b ≡ Number (bestListed (removable deskEdition) 1 largestCount tablebase b)
 
-module _ (limit : ℕ) (before after : List ℕ) (filled : FillCall 1 largestCount limit before after (accepted [])) where
-  true-entries : TrueEntries 1 largestCount (AllTables 1 largestCount) after
-  true-entries = fill-accepted 1 largestCount limit before after filled .1 .entries
+module _ (limit : ℕ) (before after : List ℕ) (filled : FillCall 1 deskEdition largestCount limit before after (accepted [])) where
+  true-entries : TrueEntries (removable deskEdition) 1 largestCount (AllTables 1 largestCount) after
+  true-entries = fill-accepted 1 deskEdition largestCount limit before after filled .1 .entries
 
   exact : length after ≡ tablebaseLength 8 largestCount
-  exact = let f = fill-accepted 1 largestCount limit before after filled in f .1 .kept .same-length ∙ f .0 .tablebase .exact
+  exact = let f = fill-accepted 1 deskEdition largestCount limit before after filled in f .1 .kept .same-length ∙ f .0 .tablebase .exact
 
   module _ (b : List ℕ) (e : refusal (boardPicks 1 b) ≡ 0) where
     none-above : countAbove largestCount (count 1 b) (count 2 b) ≡ false
@@ -57,19 +59,30 @@ module _ (limit : ℕ) (before after : List ℕ) (filled : FillCall 1 largestCou
         let c = w .counted in
         rw (le-ltb largestCount (count 1 b) (omega arith), le-ltb largestCount (count 2 b) (omega arith))
 
-    right : refusal (tablebasePicks 1 b largestCount (length after)) ≡ 0
+    right : refusal (tablebasePicks 1 deskEdition b largestCount (length after)) ≡ 0
     right =
         let p = passed (pickedRows refusalTable (boardPicks 1 b)) refl e in
-        sym (passes (pickedRows refusalTable (tablebasePicks 1 b largestCount (length after)))
-        (p .0, (p .1 .0, (p .1 .1 .0, (p .1 .1 .1 .0, (none-above, (ap not (eq-eqb (length after) (tablebaseLength 8 largestCount) exact), tt)))))))
+        sym (passes (pickedRows refusalTable (tablebasePicks 1 deskEdition b largestCount (length after))) (
+          p .0,
+          (
+            refl,
+            (
+              p .1 .0,
+              (
+                p .1 .1 .0,
+                (p .1 .1 .1 .0, (none-above, (ap not (eq-eqb (length after) (tablebaseLength 8 largestCount) exact), tt))),
+              ),
+            ),
+          ),
+        ))
 
     pub board-shown : Shown after b
     unfolding entryField moveField
     board-shown = record {
-      entry = ap fieldOf (entry-answered 1 largestCount after true-entries b right);
-      entry-true = entry-true 1 largestCount after true-entries b right;
-      blocked = λ t. ap fieldOf (blocked-answered 1 largestCount after true-entries b right t);
-      free = λ t. ap fieldOf (best-answered 1 largestCount after true-entries b right t);
+      entry = ap fieldOf (entry-answered (removable deskEdition) (removable-takes deskEdition) 1 deskEdition largestCount after true-entries b right);
+      entry-true = entry-true (removable deskEdition) (removable-takes deskEdition) 1 deskEdition largestCount after true-entries b right;
+      blocked = λ t. ap fieldOf (blocked-answered 1 deskEdition largestCount after true-entries b right t);
+      free = λ t. ap fieldOf (best-answered 1 deskEdition largestCount after true-entries b right t);
     }
 
   -- a line that is read as a position on one ring

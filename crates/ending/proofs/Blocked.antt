@@ -9,23 +9,16 @@ use lib.Dec.{eqb, ltb}
 use lib.ListN.{length, set, length-set}
 use lib.Seq.{getD-set-other, set-comm}
 use borrow.Author.Tests.{eqb-true, ltb-true}
-use Rattle.lists.specs.Lists.{isEmpty}
-use Rattle.lists.proofs.Tests.{and-left, and-right, empty-map}
+use Rattle.lists.proofs.Tests.{and-left, and-right}
 use Rattle.sizes.specs.Size.{size}
 use Rattle.ranking.specs.Unrank.{unrank}
 use Rattle.ranking.proofs.Inverse.{rank-unrank}
-use Rattle.rules.specs.Ply.{removable, legalMoves, afterPly}
-use Rattle.rules.proofs.Listed.{successors-are}
+use Rattle.rules.specs.Ply.{blocked}
 use Rattle.rules.proofs.Jumps.{three-free}
 use Rattle.game.specs.Game.{drawEntry}
-use Rattle.outcomes.specs.Whole.{next}
 use Rattle.tables.specs.declared.Table.{Table}
 use Rattle.deciding.specs.Inner.Open.{isOpen}
 use Rattle.ending.specs.Inner.Blocked.{blockedPlace, blockedFirst, blockedRange, allFree}
-
--- a board without a move has no successor
-pub no-successor : (rings : ℕ) (b : List ℕ) → isEmpty (legalMoves rings b) ≡ isEmpty (next rings b)
-no-successor rings b = sym (ap isEmpty (successors-are (λ n c. removable n c) rings b) ∙ empty-map (λ n. afterPly b n) (legalMoves rings b))
 
 -- a place: closed, blocked, or free to move
 module _ (rings : ℕ) (t : Table) (r : ℕ) (now : List ℕ) where
@@ -33,18 +26,18 @@ module _ (rings : ℕ) (t : Table) (r : ℕ) (now : List ℕ) where
   unfolding blockedPlace
   place-closed e = rw (e, blockedPlace)
 
-  pub place-blocked : isOpen t now r ≡ true → isEmpty (next rings (unrank (8 * rings) (t .mover) (t .opponent) r)) ≡ true
+  pub place-blocked : isOpen t now r ≡ true → blocked rings (unrank (8 * rings) (t .mover) (t .opponent) r) ≡ true
       → set now (t .own .start + r) 0 ≡ blockedPlace rings t now r
   unfolding blockedPlace
   place-blocked e h = rw (e, h, blockedPlace)
 
-  pub place-free : isOpen t now r ≡ true → isEmpty (next rings (unrank (8 * rings) (t .mover) (t .opponent) r)) ≡ false → now ≡ blockedPlace rings t now r
+  pub place-free : isOpen t now r ≡ true → blocked rings (unrank (8 * rings) (t .mover) (t .opponent) r) ≡ false → now ≡ blockedPlace rings t now r
   unfolding blockedPlace
   place-free e h = rw (e, h, blockedPlace)
 
   pub blocked-length : length (blockedPlace rings t now r) ≡ length now
   unfolding blockedPlace
-  blocked-length = go (isOpen t now r && isEmpty (next rings (unrank (8 * rings) (t .mover) (t .opponent) r)))
+  blocked-length = go (isOpen t now r && blocked rings (unrank (8 * rings) (t .mover) (t .opponent) r))
     where
       go : (b : Bool) → length {A = ℕ} (elim b as (λ c. List ℕ) [ true ↦ set now (t .own .start + r) 0 | false ↦ now ]) ≡ length now
       go true = length-set now (t .own .start + r) 0
@@ -66,15 +59,13 @@ module _ (rings : ℕ) (t : Table) (now : List ℕ) where
 
   -- where no mover is blocked, level 0 leaves the table as it is
   module _ (free : allFree rings t ≡ true) where
-    mover-free : (r : ℕ) → r < size (8 * rings) (t .mover) (t .opponent) → isEmpty (next rings (unrank (8 * rings) (t .mover) (t .opponent) r)) ≡ false
+    mover-free : (r : ℕ) → r < size (8 * rings) (t .mover) (t .opponent) → blocked rings (unrank (8 * rings) (t .mover) (t .opponent) r) ≡ false
     unfolding allFree
     mover-free r h =
         let three = eqb-true (t .mover) 3 (and-left (eqb (t .mover) 3) (ltb 3 (8 * rings - t .opponent)) free) in
         let room = ltb-true 3 (8 * rings - t .opponent) (and-right (eqb (t .mover) 3) (ltb 3 (8 * rings - t .opponent)) free) in
         let w = rank-unrank (8 * rings) (t .mover) (t .opponent) r h in
-        sym (no-successor rings (unrank (8 * rings) (t .mover) (t .opponent) r))
-        ∙ three-free (λ n c. removable n c) rings (unrank (8 * rings) (t .mover) (t .opponent) r) (w .values) (w .points) (w .mover ∙ three)
-        (omega (arith, w .opponent))
+        three-free rings (unrank (8 * rings) (t .mover) (t .opponent) r) (w .values) (w .points) (w .mover ∙ three) (omega (arith, w .opponent))
 
     pub free-none : (n : ℕ) → n ≤ size (8 * rings) (t .mover) (t .opponent) → now ≡ blockedFirst rings t now n
     unfolding blockedFirst
@@ -88,7 +79,7 @@ module _ (rings : ℕ) (t : Table) (now : List ℕ) where
 -- places are swept in any order
 module _ (rings : ℕ) (t : Table) where
   abbrev stuck : ℕ → Bool
-  stuck r = isEmpty (next rings (unrank (8 * rings) (t .mover) (t .opponent) r))
+  stuck r = blocked rings (unrank (8 * rings) (t .mover) (t .opponent) r)
 
   abbrev put : ℕ → List ℕ → Bool → List ℕ
   put r now true = set now (t .own .start + r) 0

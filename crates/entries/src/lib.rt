@@ -3,6 +3,7 @@ ghost use mathlib.Core.Path.{_≡_};
 ghost use Prim.Native.Nat.{_*_};
 ghost use lib.ListN.{length};
 ghost use Rattle.board.specs.Board.{boardOf};
+ghost use Rattle.rules.specs.Ply.{removable};
 ghost use Rattle.outcomes.specs.Places.{entryAt};
 ghost use Rattle.masks.specs.Inner.Masks.{Masks};
 ghost use Rattle.entries.specs.Inner.Choices.{choice, choiceAt};
@@ -32,26 +33,43 @@ pub fn entry_of(
     probing::entry_in(tablebase, binomials, rings, start, position)
 }
 
-// The best move of a position by the entries of its successors.
+// The best move of a position under an edition, by the entries of its successors.
 pub fn best_of(
     tablebase: &[u16],
     binomials: &[u32; 625],
     masks: &[u32; 72],
     rings: usize,
+    edition: u8,
     k: usize,
     position: board::Position,
 ) -> Choice
     requires { ⌜ InTablebase (now binomials) (length (now tablebase)) rings k position × Masks rings (now masks) ⌝ }
-    ensures { λ r. ⌜ choice r ≡ choiceAt rings k (now (tablebase .entry)) (boardOf (8 * rings) position) ⌝ }
+    ensures { λ r. ⌜ choice r ≡ choiceAt (removable edition) rings k (now (tablebase .entry)) (boardOf (8 * rings) position) ⌝ }
 {
     if plies::blocked(rings, masks, position) {
         return Choice::Blocked;
     }
     let starts = tables::starts_of(binomials, rings, k, position);
-    if judging::void_after(tablebase, binomials, masks, rings, starts, position) {
+    if judging::void_after(
+        tablebase,
+        binomials,
+        masks,
+        rings,
+        edition,
+        starts,
+        position,
+    ) {
         return Choice::Void;
     }
-    let best = bestmove::best_move(tablebase, binomials, masks, rings, starts, position);
+    let best = bestmove::best_move(
+        tablebase,
+        binomials,
+        masks,
+        rings,
+        edition,
+        starts,
+        position,
+    );
     Choice::Move {
         number: best.number,
         entry: best.entry,

@@ -5,6 +5,8 @@ use mathlib.Core.List.{List, [], _∷_}
 use Prim.Native.Nat.{ℕ}
 use native.Mathlib.Omega.{arith}
 use lib.ListN.{length}
+use Rattle.rules.specs.Ply.{Rule, removable}
+use Rattle.rules.proofs.Listed.{TakesOpponent, removable-takes}
 use Rattle.outcomes.specs.Whole.{TrueEntry}
 use Rattle.outcomes.specs.Filled.{AllTables}
 use Rattle.outcomes.specs.Order.{TrueEntries}
@@ -19,33 +21,36 @@ use Rattle.entries.specs.BestMove.{bestListed, bestSuccessor}
 use Rattle.entry_calls.specs.LookupCall.{lookupCall}
 use Rattle.entry_calls.specs.BestMoveCall.{bestMoveCall}
 
--- in a tablebase of true entries, a board that passes has its true entry; a best move sought for a blocked mover meets 9, for another it is answered
-module _ (rings k : ℕ) (tablebase : List ℕ) (entries : TrueEntries rings k (AllTables rings k) tablebase) (b : List ℕ)
-    (right : refusal (tablebasePicks rings b k (length tablebase)) ≡ 0) where
-  known : AcceptedEntry rings b k (length tablebase)
-  known = accepted-entry rings b k (length tablebase) right
+-- in a tablebase of true entries under a rule, a board that passes has its true entry, whatever edition the call names
+module _ (rule : Rule) (takes : TakesOpponent rule) (rings edition k : ℕ) (tablebase : List ℕ)
+    (entries : TrueEntries rule rings k (AllTables rings k) tablebase) (b : List ℕ)
+    (right : refusal (tablebasePicks rings edition b k (length tablebase)) ≡ 0) where
+  pub entry-true : TrueEntry rule rings b (entryAt rings k tablebase b)
+  entry-true = board-true rule takes rings k tablebase entries b (accepted-entry rings edition b k (length tablebase) right .in-tables)
 
-  pub entry-true : TrueEntry rings b (entryAt rings k tablebase b)
-  entry-true = board-true rings k tablebase entries b (known .in-tables)
-
-  pub entry-answered : lookupCall rings b k tablebase ≡ accepted (entryAt rings k tablebase b ∷ [])
+  pub entry-answered : lookupCall rings edition b k tablebase ≡ accepted (entryAt rings k tablebase b ∷ [])
   unfolding lookupCall
   entry-answered =
-      sym (answer-accepted (refusal (lookupPicks rings b k tablebase)) _
-      (sym (lookup-decides rings b k tablebase (sym right) ∙ ap (λ (t : Bool). cond t 12 0) (not-void rings b (entryAt rings k tablebase b) entry-true))))
+      sym (answer-accepted (refusal (lookupPicks rings edition b k tablebase)) _
+      (sym (lookup-decides rings edition b k tablebase (sym right)
+      ∙ ap (λ (t : Bool). cond t 12 0) (not-void rule rings b (entryAt rings k tablebase b) entry-true))))
 
-  pub blocked-answered : moverBlocked rings b ≡ true → bestMoveCall rings b k tablebase ≡ refused 9
+-- a best move sought for a blocked mover meets 9; for another it is answered, where the entries are true under the edition that the call names
+module _ (rings edition k : ℕ) (tablebase : List ℕ) (entries : TrueEntries (removable edition) rings k (AllTables rings k) tablebase) (b : List ℕ)
+    (right : refusal (tablebasePicks rings edition b k (length tablebase)) ≡ 0) where
+  pub blocked-answered : moverBlocked rings b ≡ true → bestMoveCall rings edition b k tablebase ≡ refused 9
   unfolding bestMoveCall
   blocked-answered t =
-      sym (answer-refused 9 (refusal (bestMovePicks rings b k tablebase)) _ (λ z. absurd (omega arith))
-      (sym (best-move-decides rings b k tablebase (sym right)
-      ∙ ap (λ (s : Bool). cond s 9 (cond (successorVoid rings k tablebase b) 12 0)) t)))
+      sym (answer-refused 9 (refusal (bestMovePicks rings edition b k tablebase)) _ (λ z. absurd (omega arith))
+      (sym (best-move-decides rings edition b k tablebase (sym right)
+      ∙ ap (λ (s : Bool). cond s 9 (cond (successorVoid (removable edition) rings k tablebase b) 12 0)) t)))
 
   pub best-answered : moverBlocked rings b ≡ false
-      → bestMoveCall rings b k tablebase
-      ≡ accepted (bestListed rings k tablebase b ∷ successorEntry rings k tablebase (bestSuccessor rings k tablebase b) ∷ [])
+      → bestMoveCall rings edition b k tablebase ≡ accepted (bestListed (removable edition) rings k tablebase b
+      ∷ successorEntry rings k tablebase (bestSuccessor (removable edition) rings k tablebase b) ∷ [])
   unfolding bestMoveCall
   best-answered some =
-      let told = successors-told rings k tablebase entries (known .board .rings-high) b (known .in-tables) in
-      sym (answer-accepted (refusal (bestMovePicks rings b k tablebase)) _
-      (sym (best-move-decides rings b k tablebase (sym right) ∙ ap₂ (λ (t u : Bool). cond t 9 (cond u 12 0)) some told)))
+      let known : AcceptedEntry rings b k (length tablebase) = accepted-entry rings edition b k (length tablebase) right in
+      let told = successors-told (removable edition) (removable-takes edition) rings k tablebase entries (known .board .rings-high) b (known .in-tables) in
+      sym (answer-accepted (refusal (bestMovePicks rings edition b k tablebase)) _
+      (sym (best-move-decides rings edition b k tablebase (sym right) ∙ ap₂ (λ (t u : Bool). cond t 9 (cond u 12 0)) some told)))

@@ -8,6 +8,7 @@ use lib.ListN.{length}
 use Rattle.board.specs.declared.Position.{Position}
 use Rattle.board.specs.Board.{count}
 use Rattle.sizes.specs.Inner.Binomial.{BinomialTable}
+use Rattle.rules.specs.Ply.{removable}
 use Rattle.outcomes.specs.Places.{entryAt, successorEntry, isVoid}
 use Rattle.refusals.specs.Refusals.{refusal}
 use Rattle.refusals.specs.Conditions.{tablebasePicks}
@@ -37,23 +38,25 @@ stands rings b k p binomials w shows =
       opponent-high = omega (arith, t, o);
     }
 
-module _ (rings : ℕ) (b : List ℕ) (k : ℕ) (tablebase : List ℕ) (right : 0 ≡ refusal (tablebasePicks rings b k (length tablebase))) where
+module _ (rings edition : ℕ) (b : List ℕ) (k : ℕ) (tablebase : List ℕ) (right : 0 ≡ refusal (tablebasePicks rings edition b k (length tablebase))) where
   -- the entry that was read decides what `lookup` answers
-  pub void-answer : isVoid (entryAt rings k tablebase b) ≡ true → refused 12 ≡ lookupCall rings b k tablebase
+  pub void-answer : isVoid (entryAt rings k tablebase b) ≡ true → refused 12 ≡ lookupCall rings edition b k tablebase
   unfolding lookupCall
   void-answer e =
       ap (λ (r : ℕ). answer r (entryAt rings k tablebase b ∷ []))
-      (sym (lookup-decides rings b k tablebase right ∙ ap (λ (t : Bool). cond t 12 0) e))
+      (sym (lookup-decides rings edition b k tablebase right ∙ ap (λ (t : Bool). cond t 12 0) e))
 
-  pub entry-answer : isVoid (entryAt rings k tablebase b) ≡ false → accepted (entryAt rings k tablebase b ∷ []) ≡ lookupCall rings b k tablebase
+  pub entry-answer : isVoid (entryAt rings k tablebase b) ≡ false → accepted (entryAt rings k tablebase b ∷ []) ≡ lookupCall rings edition b k tablebase
   unfolding lookupCall
   entry-answer e =
       ap (λ (r : ℕ). answer r (entryAt rings k tablebase b ∷ []))
-      (sym (lookup-decides rings b k tablebase right ∙ ap (λ (t : Bool). cond t 12 0) e))
+      (sym (lookup-decides rings edition b k tablebase right ∙ ap (λ (t : Bool). cond t 12 0) e))
 
   -- and the choice that was made what `best_move` answers
-  pub choice-answer : choiceAt rings k tablebase b ≡ bestMoveCall rings b k tablebase
+  pub choice-answer : choiceAt (removable edition) rings k tablebase b ≡ bestMoveCall rings edition b k tablebase
   unfolding choiceAt bestMoveCall
   choice-answer =
-      ap (λ (r : ℕ). answer r (bestListed rings k tablebase b ∷ successorEntry rings k tablebase (bestSuccessor rings k tablebase b) ∷ []))
-      (sym (best-move-decides rings b k tablebase right))
+      ap (λ (r : ℕ). answer r
+      (bestListed (removable edition) rings k tablebase b
+      ∷ successorEntry rings k tablebase (bestSuccessor (removable edition) rings k tablebase b) ∷ []))
+      (sym (best-move-decides rings edition b k tablebase right))

@@ -1,4 +1,5 @@
--- The call `lookup` (document 01: "rings and a board, for .. its entry in a shelf"). Assumes nothing.
+-- The call `lookup` (document 01: "rings and a board, for .. its entry in a shelf"). Document 02, A11: "An entry means the outcome under the edition
+-- with which its shelf was filled": the edition is tested, and what is read does not depend on it. Assumes nothing.
 use mathlib.Core.List.{List, [], _∷_}
 use Prim.Native.Nat.{ℕ}
 use Rattle.outcomes.specs.Places.{entryAt}
@@ -6,6 +7,6 @@ use Rattle.refusals.specs.Refusals.{refusal}
 use Rattle.refusals.specs.Conditions.{lookupPicks}
 use Rattle.answers.specs.Answers.{Answer, answer}
 
--- 1, 2, 3, 4, 11, 6, 12; else the entry
-unfoldable pub lookupCall : ℕ → List ℕ → ℕ → List ℕ → Answer
-lookupCall rings b k tablebase = answer (refusal (lookupPicks rings b k tablebase)) (entryAt rings k tablebase b ∷ [])
+-- 1, 20, 2, 3, 4, 11, 6, 12; else the entry
+unfoldable pub lookupCall : ℕ → ℕ → List ℕ → ℕ → List ℕ → Answer
+lookupCall rings edition b k tablebase = answer (refusal (lookupPicks rings edition b k tablebase)) (entryAt rings k tablebase b ∷ [])

@@ -1,4 +1,4 @@
-// The entry of a board in a tablebase, and its best move.
+// The entry of a board in a tablebase, and its best move under a rules edition.
 ghost use mathlib.Core.Path.{_≡_};
 ghost use Rattle.answers.specs.Answers.{looked, chosen};
 ghost use Rattle.entry_calls.specs.LookupCall.{lookupCall};
@@ -7,12 +7,20 @@ use answers::Chosen;
 use answers::Looked;
 use entries::Choice;
 
-// The entry of a board in a tablebase of largest count k: 65,535 draw, else plies to the end, even lost, odd won. Refusals: 1, 2, 3, 4, 11, 6, 12.
-pub fn lookup(rings: u8, board: &[u8], k: u8, tablebase: &[u16]) -> Looked
-    ensures { λ r. ⌜ looked r ≡ lookupCall rings (now (board .entry)) k (now (tablebase .entry)) ⌝ }
+// The entry of a board in a tablebase of largest count k: 65,535 draw, else plies to the end, even lost, odd won. It means the outcome under the
+// rules edition with which the tablebase was filled, whatever edition is named. Refusals: 1, 20, 2, 3, 4, 11, 6, 12.
+pub fn lookup(rings: u8, edition: u8, board: &[u8], k: u8, tablebase: &[u16]) -> Looked
+    ensures { λ r. ⌜ looked r ≡ lookupCall rings edition (now (board .entry)) k (now (tablebase .entry)) ⌝ }
 {
     let binomials = sizes::binomial_table();
-    let refusal = tablebase_refusals::of_tablebase(&binomials, rings, board, k, tablebase.len());
+    let refusal = tablebase_refusals::of_tablebase(
+        &binomials,
+        rings,
+        edition,
+        board,
+        k,
+        tablebase.len(),
+    );
     if refusal != 0 {
         return Looked::Refused(refusal);
     }
@@ -24,23 +32,32 @@ pub fn lookup(rings: u8, board: &[u8], k: u8, tablebase: &[u16]) -> Looked
     Looked::Entry(entry)
 }
 
-// The best move of a board by the entries of its successors: the first listed among quickest win, else a draw, else longest loss.
-// Refusals: 1, 2, 3, 4, 11, 6, 9, 12.
-pub fn best_move(rings: u8, board: &[u8], k: u8, tablebase: &[u16]) -> Chosen
-    ensures { λ r. ⌜ chosen r ≡ bestMoveCall rings (now (board .entry)) k (now (tablebase .entry)) ⌝ }
+// The best move of a board under rules edition 1 or 2, by the entries of its successors: the first listed among quickest win, else a draw, else
+// longest loss. Refusals: 1, 20, 2, 3, 4, 11, 6, 9, 12.
+pub fn best_move(rings: u8, edition: u8, board: &[u8], k: u8, tablebase: &[u16]) -> Chosen
+    ensures { λ r. ⌜ chosen r ≡ bestMoveCall rings edition (now (board .entry)) k (now (tablebase .entry)) ⌝ }
 {
     let binomials = sizes::binomial_table();
-    let refusal = tablebase_refusals::of_tablebase(&binomials, rings, board, k, tablebase.len());
+    let refusal = tablebase_refusals::of_tablebase(
+        &binomials,
+        rings,
+        edition,
+        board,
+        k,
+        tablebase.len(),
+    );
     if refusal != 0 {
         return Chosen::Refused(refusal);
     }
-    let masks = masks::masks_of(rings as usize);
+    let rings = rings as usize;
+    let masks = masks::masks_of(rings);
     let position = board::position_of(board);
     match entries::best_of(
         tablebase,
         &binomials,
         &masks,
-        rings as usize,
+        rings,
+        edition,
         k as usize,
         position,
     ) {

@@ -15,6 +15,10 @@ use Rattle.text.specs.declared.Field.the-variants.{Number, Absent}
 abbrev pub largestCount : ℕ
 largestCount = 5
 
+-- "`desk` keeps edition 1" (document 02, A11)
+abbrev pub deskEdition : ℕ
+deskEdition = 1
+
 -- the first value of an answer, or `-` where the call is turned back
 abbrev pub fieldOf : Answer → Field
 fieldOf (accepted vs) = Number (getD vs 0 0)
@@ -25,7 +29,7 @@ abbrev pub onOneRing : ℕ → Field → Field
 onOneRing rings field = elim (eqb rings 1) [ true ↦ field | false ↦ Absent ]
 
 unfoldable pub entryField : List ℕ → ℕ → List ℕ → Field
-entryField tablebase rings b = onOneRing rings (fieldOf (lookupCall rings b largestCount tablebase))
+entryField tablebase rings b = onOneRing rings (fieldOf (lookupCall rings deskEdition b largestCount tablebase))
 
 unfoldable pub moveField : List ℕ → ℕ → List ℕ → Field
-moveField tablebase rings b = onOneRing rings (fieldOf (bestMoveCall rings b largestCount tablebase))
+moveField tablebase rings b = onOneRing rings (fieldOf (bestMoveCall rings deskEdition b largestCount tablebase))

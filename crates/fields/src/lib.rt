@@ -13,6 +13,9 @@ use text::Field;
 // The largest count of the tablebase.
 pub const LARGEST_COUNT: u8 = 5;
 
+// The rules edition that `desk` keeps.
+pub const DESK_EDITION: u8 = 1;
+
 // Entry and move are `-` on two and three rings.
 fn is_absent(rings: u8) -> bool
     ensures { λ r. ⌜ r ≡ not (eqb rings 1) ⌝ }
@@ -38,7 +41,7 @@ pub fn entry_of(tablebase: &[u16], rings: u8, board: &[u8]) -> Field
     if is_absent(rings) {
         return Field::Absent;
     }
-    let answer = entry_calls::lookup(rings, board, LARGEST_COUNT, tablebase);
+    let answer = entry_calls::lookup(rings, DESK_EDITION, board, LARGEST_COUNT, tablebase);
     let Looked::Entry(entry) = answer else {
         return Field::Absent;
     };
@@ -52,7 +55,7 @@ pub fn move_of(tablebase: &[u16], rings: u8, board: &[u8]) -> Field
     if is_absent(rings) {
         return Field::Absent;
     }
-    let answer = entry_calls::best_move(rings, board, LARGEST_COUNT, tablebase);
+    let answer = entry_calls::best_move(rings, DESK_EDITION, board, LARGEST_COUNT, tablebase);
     let Chosen::Move { number, entry: _ } = answer else {
         return Field::Absent;
     };

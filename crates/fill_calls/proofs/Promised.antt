@@ -10,6 +10,7 @@ use lib.Dec.{ltb, eqb}
 use lib.ListN.{length}
 use borrow.Author.Tests.{eqb-false}
 use Rattle.lists.specs.Lists.{all}
+use Rattle.rules.specs.Ply.{removable}
 use Rattle.solver.specs.Inner.Solve.{WholeFill}
 use Rattle.filling.specs.Inner.Solve.{PairFill}
 use Rattle.refusals.specs.Refusals.{Pick, Picked, pick, tooDeep, refusalTable, pickedRows, first, refusal}
@@ -26,11 +27,11 @@ pub record DepthLast (picks : List Pick) : Type 0 where
   pub numbers : all (λ r. ltb 0 (r .number)) (pickedRows refusalTable picks) ≡ true
   pub others : all (λ r. not (eqb (r .number) 13)) (pickedRows refusalTable picks) ≡ true
 
-pub fill-last : (rings k limit n : ℕ) → DepthLast (fillPicks rings k limit n)
-fill-last rings k limit n = record { rows = λ deep. refl; numbers = refl; others = refl }
+pub fill-last : (rings edition k limit n : ℕ) → DepthLast (fillPicks rings edition k limit n)
+fill-last rings edition k limit n = record { rows = λ deep. refl; numbers = refl; others = refl }
 
-pub pair-last : (rings m o k limit : ℕ) (tablebase : List ℕ) → DepthLast (pairPicks rings m o k limit tablebase)
-pair-last rings m o k limit tablebase = record { rows = λ deep. refl; numbers = refl; others = refl }
+pub pair-last : (rings edition m o k limit : ℕ) (tablebase : List ℕ) → DepthLast (pairPicks rings edition m o k limit tablebase)
+pair-last rings edition m o k limit tablebase = record { rows = λ deep. refl; numbers = refl; others = refl }
 
 module _ (picks : List Pick) (last : DepthLast picks) where
   -- an earlier refusal stays, whatever the depth
@@ -125,26 +126,33 @@ module _ (picks : List Pick) (last : DepthLast picks) where
         go false f = inl (answers false f, fills false f)
 
 -- the ways out of the two calls, by what the solver says of the depth
-module _ (rings k limit : ℕ) (before : List ℕ) where
-  pub fill-refused : (n : ℕ) → (n ≡ 0 → ⊥) → n ≡ refusal (fillPicks rings k limit (length before)) → FillCall rings k limit before before (refused n)
+module _ (rings edition k limit : ℕ) (before : List ℕ) where
+  pub fill-refused : (n : ℕ) → (n ≡ 0 → ⊥) → n ≡ refusal (fillPicks rings edition k limit (length before))
+      → FillCall rings edition k limit before before (refused n)
   fill-refused =
-      promise-refused (fillPicks rings k limit (length before)) (fill-last rings k limit (length before))
-      (λ deep. WholeFill rings k limit before before deep) before before
+      promise-refused (fillPicks rings edition k limit (length before)) (fill-last rings edition k limit (length before))
+      (λ deep. WholeFill (removable edition) rings k limit before before deep) before before
 
-  pub fill-kept : (after : List ℕ) (said deep : Bool) → 0 ≡ refusal (fillPicks rings k limit (length before)) → WholeFill rings k limit before after said
-      → said ≡ deep → FillCall rings k limit before after (answer (cond deep 13 0) [])
+  pub fill-kept : (after : List ℕ) (said deep : Bool) → 0 ≡ refusal (fillPicks rings edition k limit (length before))
+      → WholeFill (removable edition) rings k limit before after said
+      → said ≡ deep → FillCall rings edition k limit before after (answer (cond deep 13 0) [])
   fill-kept after said deep e f d =
-      promise-kept (fillPicks rings k limit (length before)) (fill-last rings k limit (length before)) (λ x. WholeFill rings k limit before after x)
-      before after deep e (subst (λ (x : Bool). WholeFill rings k limit before after x) d f)
+      promise-kept (fillPicks rings edition k limit (length before)) (fill-last rings edition k limit (length before))
+      (λ x. WholeFill (removable edition) rings k limit before after x)
+      before after deep e (subst (λ (x : Bool). WholeFill (removable edition) rings k limit before after x) d f)
 
   module _ (m o : ℕ) where
-    pub pair-turned : (n : ℕ) → (n ≡ 0 → ⊥) → n ≡ refusal (pairPicks rings m o k limit before) → FillPairCall rings m o k limit before before (refused n)
+    pub pair-turned : (n : ℕ) → (n ≡ 0 → ⊥) → n ≡ refusal (pairPicks rings edition m o k limit before)
+        → FillPairCall rings edition m o k limit before before (refused n)
     pair-turned =
-        promise-refused (pairPicks rings m o k limit before) (pair-last rings m o k limit before) (λ deep. PairFill rings k m o limit before before deep)
+        promise-refused (pairPicks rings edition m o k limit before) (pair-last rings edition m o k limit before)
+        (λ deep. PairFill (removable edition) rings k m o limit before before deep)
         before before
 
-    pub pair-kept : (after : List ℕ) (said deep : Bool) → 0 ≡ refusal (pairPicks rings m o k limit before) → PairFill rings k m o limit before after said
-        → said ≡ deep → FillPairCall rings m o k limit before after (answer (cond deep 13 0) [])
+    pub pair-kept : (after : List ℕ) (said deep : Bool) → 0 ≡ refusal (pairPicks rings edition m o k limit before)
+        → PairFill (removable edition) rings k m o limit before after said
+        → said ≡ deep → FillPairCall rings edition m o k limit before after (answer (cond deep 13 0) [])
     pair-kept after said deep e f d =
-        promise-kept (pairPicks rings m o k limit before) (pair-last rings m o k limit before) (λ x. PairFill rings k m o limit before after x)
-        before after deep e (subst (λ (x : Bool). PairFill rings k m o limit before after x) d f)
+        promise-kept (pairPicks rings edition m o k limit before) (pair-last rings edition m o k limit before)
+        (λ x. PairFill (removable edition) rings k m o limit before after x)
+        before after deep e (subst (λ (x : Bool). PairFill (removable edition) rings k m o limit before after x) d f)

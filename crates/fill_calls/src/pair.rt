@@ -5,22 +5,24 @@ use answers::Solved;
 use filling::Bounds;
 use solver::Counts;
 
-// Fills the tables of two counts, either way round, over the entries of their lower tables. Refusals: 1, 4, 11, 6, 10, 12, 13; after 13 every entry
-// of the two tables is void.
+// Fills the tables of two counts, either way round, over the entries of their lower tables, under an edition. Refusals: 1, 20, 4, 11, 6, 10, 12, 13;
+// after 13 every entry of the two tables is void.
 pub fn fill_pair(
     rings: u8,
+    edition: u8,
     mover: u8,
     opponent: u8,
     k: u8,
     limit: u32,
     tablebase: &mut [u16],
 ) -> Solved
-    ensures { λ r. ⌜ FillPairCall rings mover opponent k limit (now (tablebase .entry)) (now (tablebase .exit)) (solved r) ⌝ }
+    ensures { λ r. ⌜ FillPairCall rings edition mover opponent k limit (now (tablebase .entry)) (now (tablebase .exit)) (solved r) ⌝ }
 {
     let binomials = sizes::binomial_table();
     let refusal = tablebase_refusals::of_pair(
         &binomials,
         rings,
+        edition,
         mover,
         opponent,
         k,
@@ -45,6 +47,7 @@ pub fn fill_pair(
         &images,
         Bounds {
             rings: rings as usize,
+            edition: edition,
             k: k as usize,
             limit,
         },

@@ -4,12 +4,20 @@ ghost use Rattle.fill_calls.specs.Fills.{FillCall};
 use answers::Solved;
 use filling::Bounds;
 
-// Fills the tablebase of largest count k: at each place the plies to the end, or draw. Refusals: 1, 11, 6, 10, 13; after 13 every entry is void.
-pub fn fill(rings: u8, k: u8, limit: u32, tablebase: &mut [u16]) -> Solved
-    ensures { λ r. ⌜ FillCall rings k limit (now (tablebase .entry)) (now (tablebase .exit)) (solved r) ⌝ }
+// Fills the tablebase of largest count k under an edition: at each place the plies to the end, or draw. Refusals: 1, 20, 11, 6, 10, 13; after 13
+// every entry is void.
+pub fn fill(rings: u8, edition: u8, k: u8, limit: u32, tablebase: &mut [u16]) -> Solved
+    ensures { λ r. ⌜ FillCall rings edition k limit (now (tablebase .entry)) (now (tablebase .exit)) (solved r) ⌝ }
 {
     let binomials = sizes::binomial_table();
-    let refusal = tablebase_refusals::of_fill(&binomials, rings, k, limit, tablebase.len());
+    let refusal = tablebase_refusals::of_fill(
+        &binomials,
+        rings,
+        edition,
+        k,
+        limit,
+        tablebase.len(),
+    );
     if refusal != 0 {
         return Solved::Refused(refusal);
     }
@@ -23,6 +31,7 @@ pub fn fill(rings: u8, k: u8, limit: u32, tablebase: &mut [u16]) -> Solved
         &images,
         Bounds {
             rings: rings as usize,
+            edition: edition,
             k: k as usize,
             limit,
         },

@@ -11,13 +11,14 @@ use borrow.Author.Tests.{eqb-true, eqb-false, ltb-true, ltb-false}
 use Rattle.board.specs.Board.{count}
 use Rattle.layout.specs.Layout.{tablebaseLength}
 use Rattle.layout.proofs.OneToOne.{InRange, end-is, end-within}
+use Rattle.rules.specs.Ply.{Rule, successors}
+use Rattle.rules.proofs.Listed.{TakesOpponent}
 use Rattle.game.specs.Game.{drawEntry, voidEntry}
 use Rattle.game.proofs.Levels.{skip, stop}
 use Rattle.parts.specs.Parts.{partOf}
 use Rattle.finding.specs.Inner.Finding.{leastFrom}
 use Rattle.finding.proofs.LeastDepth.{least-cases, part-below}
 use Rattle.outcomes.specs.Places.{placeOf, entryAt, successorEntry}
-use Rattle.outcomes.specs.Whole.{next}
 use Rattle.outcomes.specs.Pair.{Pair, pairSeed, LowerValid}
 use Rattle.outcomes.specs.Filled.{BothTables, Kept}
 use Rattle.outcomes.proofs.Ranked.{InTable, place-at, rank-in}
@@ -156,9 +157,10 @@ in-room {n} {rings} {k} {m} {o} {a} {b} s = record {
 pub setting-now : {n rings k m o : ℕ} {a b : Table} → (l : ℕ) → l ≡ n → Setting n rings k m o a b → Setting l rings k m o a b
 setting-now l e s = record { pair = s .pair; few = s .few; room = e ∙ s .room; first = s .first; second = s .second }
 
-module _ (rings k m o : ℕ) (a b : Table) (before : List ℕ) (s : Setting (length before) rings k m o a b) (valid : LowerValid rings k m o before)
+module _ (rule : Rule) (takes : TakesOpponent rule) (rings k m o : ℕ) (a b : Table) (before : List ℕ) (s : Setting (length before) rings k m o a b)
+    (valid : LowerValid rings k m o before)
     (limit level : ℕ) (pos : 0 < level) (low : level < voidEntry) (after : List ℕ) (kept : Kept rings k (BothTables m o) before after)
-    (exact : ExactBelow rings k m o a b before s valid (suc level) after)
+    (exact : ExactBelow rule takes rings k m o a b before s valid (suc level) after)
     (most : (c : List ℕ) → InPair rings m o c → (entryAt rings k after c ≤ limit) ⊎ (entryAt rings k after c ≡ drawEntry)) where
   here : Setting (length after) rings k m o a b
   here = setting-now (length after) (kept .same-length) s
@@ -178,16 +180,19 @@ module _ (rings k m o : ℕ) (a b : Table) (before : List ℕ) (s : Setting (len
           bad e (inl q) = omega arith
           bad e (inr q) = omega arith
 
-  pub state-next : (then : ℕ) → then ≡ suc (pairLeast a b level after) → (level < then) × State rings k m o a b before s valid limit then after
+  pub state-next : (then : ℕ) → then ≡ suc (pairLeast a b level after) → (level < then) × State rule takes rings k m o a b before s valid limit then
+      after
   state-next then e =
       let r = least-range rings k m o a b after here level low in (
         omega (arith, r .0),
-        subst (λ (v : ℕ). State rings k m o a b before s valid limit v after) (sym e) record {
+        subst (λ (v : ℕ). State rule takes rings k m o a b before s valid limit v after) (sym e) record {
           kept = kept;
-          exact = skip (next rings) (λ c. pairSeed rings k m o before c) (OnPair rings m o) (pair-ground rings k m o (s .pair) before valid) level low
+          exact = skip (successors rule rings) (λ c. pairSeed rings k m o before c) (OnPair rings m o)
+              (pair-ground rule takes rings k m o (s .pair) before valid) level low
               (λ c. successorEntry rings k after c) exact (pairLeast a b level after) (r .0) (λ c i l u. nothing c i l u (omega (arith, r .1)));
           most = most;
-          over = λ v. stop (next rings) (λ c. pairSeed rings k m o before c) (OnPair rings m o) (pair-ground rings k m o (s .pair) before valid) level low
+          over = λ v. stop (successors rule rings) (λ c. pairSeed rings k m o before c) (OnPair rings m o)
+              (pair-ground rule takes rings k m o (s .pair) before valid) level low
               (λ c. successorEntry rings k after c) exact (λ c i l u. nothing c i l (omega arith) u);
         },
       )

@@ -2,6 +2,7 @@
 // one more than the least depth from the level on. The first level beyond the limit that writes anything shows a position that is too deep. Level
 // 65,534 is no entry: there one look decides.
 ghost use Prim.Native.Nat.{_<_};
+ghost use Rattle.rules.specs.Ply.{removable};
 ghost use Rattle.probing.specs.Inner.Conditions.{Lent};
 ghost use Rattle.filling.specs.Inner.Solve.{PairSolving, PairFill};
 use classing::Maps;
@@ -9,9 +10,10 @@ use pairs::Tables;
 use parts::DRAW;
 use parts::VOID;
 
-// The rings and the largest count of a tablebase, and the limit of its depths.
+// The rings and the largest count of a tablebase, the edition under which it is filled, and the limit of its depths.
 pub struct Bounds {
     pub rings: usize,
+    pub edition: u8,
     pub k: usize,
     pub limit: u16,
 }
@@ -28,7 +30,8 @@ pub fn solve_tables(
 ) -> bool
     requires { ⌜ Lent (bounds .rings) (now binomials) (now masks) ⌝ }
     requires { ⌜ PairSolving (now images) (now tablebase) bounds maps tables ⌝ }
-    ensures { λ deep. ⌜ PairFill (bounds .rings) (bounds .k) (tables .first .mover) (tables .first .opponent) (bounds .limit) (now (tablebase .entry))
+    ensures { λ deep. ⌜ PairFill (removable (bounds .edition)) (bounds .rings) (bounds .k) (tables .first .mover) (tables .first .opponent)
+        (bounds .limit) (now (tablebase .entry))
         (now (tablebase .exit)) deep ⌝ }
 {
     pairs::fill_tables(tablebase, tables, DRAW);
@@ -44,6 +47,7 @@ pub fn solve_tables(
                 rings: bounds.rings,
                 count: maps,
             },
+            bounds.edition,
             tables,
             level,
         );
@@ -56,7 +60,14 @@ pub fn solve_tables(
     if VOID < level {
         return false;
     }
-    if pairs::pair_decided(tablebase, binomials, masks, bounds.rings, tables) {
+    if pairs::pair_decided(
+        tablebase,
+        binomials,
+        masks,
+        bounds.rings,
+        bounds.edition,
+        tables,
+    ) {
         pairs::fill_tables(tablebase, tables, VOID);
         return true;
     }

@@ -5,6 +5,7 @@ ghost use Prim.Native.Nat.{_-_, _*_, _≤_};
 ghost use lib.ListN.{length};
 ghost use Rattle.sizes.specs.Inner.Binomial.{BinomialTable};
 ghost use Rattle.layout.specs.Layout.{tablebaseLength};
+ghost use Rattle.rules.specs.Ply.{removable};
 ghost use Rattle.symmetry.specs.Symmetries.{symmetries};
 ghost use Rattle.outcomes.specs.Places.{lowerVoid};
 ghost use Rattle.outcomes.specs.Pair.{Pair};
@@ -106,7 +107,8 @@ pub fn solve_given(
 ) -> bool
     requires { ⌜ Lent (bounds .rings) (now binomials) (now masks) ⌝ }
     requires { ⌜ PairGiven (now images) (now tablebase) bounds counts ⌝ }
-    ensures { λ deep. ⌜ PairFill (bounds .rings) (bounds .k) (counts .mover) (counts .opponent) (bounds .limit) (now (tablebase .entry))
+    ensures { λ deep. ⌜ PairFill (removable (bounds .edition)) (bounds .rings) (bounds .k) (counts .mover) (counts .opponent) (bounds .limit)
+        (now (tablebase .entry))
         (now (tablebase .exit)) deep ⌝ }
 {
     let maps = given_maps(

@@ -7,8 +7,9 @@ use lib.ListN.{length, getD}
 use Rattle.board.specs.Board.{count}
 use Rattle.ranking.specs.Rank.{rank}
 use Rattle.layout.specs.Layout.{start}
+use Rattle.rules.specs.Ply.{Rule, successors}
+use Rattle.rules.proofs.Listed.{TakesOpponent}
 use Rattle.outcomes.specs.Places.{entryAt}
-use Rattle.outcomes.specs.Whole.{next}
 use Rattle.outcomes.specs.Pair.{Pair, inPair, given, pairSeed, LowerTables}
 use Rattle.outcomes.specs.Filled.{BothTables}
 use Rattle.outcomes.proofs.Ranked.{InTable, rank-in, unrank-of}
@@ -21,7 +22,7 @@ use Rattle.symmetry.proofs.Compose.{image-compose, image-back, image-count}
 use Rattle.game.proofs.Maps.{Maps}
 use Rattle.invariance.specs.Symmetric.{LowerSymmetric}
 use Rattle.invariance.proofs.Groups.{Group}
-use Rattle.invariance.proofs.WholeMaps.{next-forth, next-back}
+use Rattle.invariance.proofs.Plies.{successors-image, image-successors, Commutes}
 
 module _ (rings : ℕ) (few : rings ≤ 3) (g : ℕ) (h : g < symmetries) where
   -- the image of a board of a table is of that table
@@ -54,7 +55,8 @@ module _ (rings : ℕ) (few : rings ≤ 3) (g : ℕ) (h : g < symmetries) where
   unfolding inPair
   image-pair m o b points = rw (image-count rings few b points g 1 h, image-count rings few b points g 2 h)
 
-module _ (rings k m o : ℕ) (pair : Pair rings k m o) (maps : ℕ) (w : Group maps) (before : List ℕ) (symmetric : LowerSymmetric maps rings k m o before) where
+module _ (rule : Rule) (takes : TakesOpponent rule) (commutes : Commutes rule) (rings k m o : ℕ) (pair : Pair rings k m o) (maps : ℕ) (w : Group maps)
+    (before : List ℕ) (symmetric : LowerSymmetric maps rings k m o before) where
   -- a board of a lower table
   lower-symmetric : (g : ℕ) → g < maps → (b : List ℕ) → OnPair rings m o b → LowerTables m o (count 1 b) (count 2 b)
       → entryAt rings k before (image rings g b) ≡ entryAt rings k before b
@@ -89,12 +91,12 @@ module _ (rings k m o : ℕ) (pair : Pair rings k m o) (maps : ℕ) (w : Group m
           seed-given rings k m o before (image rings g b) (same ∙ f) (omega (arith, stones, t .0))
           ∙ ap given (lower-symmetric g l b s t) ∙ sym (seed-given rings k m o before b f (t .0))
 
-  pub pair-maps : Maps (next rings) (λ b. pairSeed rings k m o before b) (OnPair rings m o) maps (λ g b. image rings g b)
+  pub pair-maps : Maps (successors rule rings) (λ b. pairSeed rings k m o before b) (OnPair rings m o) maps (λ g b. image rings g b)
   pair-maps = record {
     within = λ g l b s. image-on rings (pair .small) g (omega (arith, w .high)) m o b s;
     seeds = λ g l b s. seed-image g l b s;
-    forth = λ g l b s e c n. next-forth rings (pair .small) g (omega (arith, w .high)) b (s .points) c n;
-    back = λ g l b s e c n. next-back rings (pair .small) g (omega (arith, w .high)) b (s .points) c n;
+    forth = λ g l b s e c n. image-successors rule takes commutes rings (pair .small) g (omega (arith, w .high)) b (s .points) c n;
+    back = λ g l b s e c n. successors-image rule takes commutes rings (pair .small) g (omega (arith, w .high)) b (s .points) c n;
     stays = λ b s. (0, w .low, image-zero rings b);
     undone = λ g l b s. (inverse g, w .inverts g l, image-back rings (pair .small) b (s .points) g (omega (arith, w .high)));
     composed = λ g h l n b s. (

@@ -11,7 +11,7 @@ use lib.Dec.{eqb}
 use lib.ListN.{length}
 use Rattle.lists.specs.Lists.{orElse}
 use Rattle.lists.proofs.Members.{orElse-first, orElse-second}
-use Rattle.rules.specs.Ply.{holds, holding, inMill, slide, unshielded, removable, noRemoval, removals, moveNumber, fromOf, toOf, removedOf, moves, remove, exchange, afterPly, successors}
+use Rattle.rules.specs.Ply.{Rule, holds, holding, inMill, slide, unshielded, ifAllShielded, removable, noRemoval, removals, moveNumber, fromOf, toOf, removedOf, moves, remove, exchange, afterPly, successors}
 use Rattle.rules.proofs.Listed.{holding-is, is-holding, Move, Listed, move-of, of-move, removals-with, removals-without, removal-cases, TakesOpponent, successor-of, of-successor, unshielded-is, is-unshielded, removable-are}
 use Rattle.rules.proofs.Leads.{Parts, parts-of, after-parts, after-length, slide-length}
 use Rattle.symmetry.specs.Symmetries.{symmetries, source, image}
@@ -26,7 +26,7 @@ unfoldable pub sourceMove : ℕ → ℕ → ℕ → ℕ
 sourceMove rings g n = moveNumber (source rings g (fromOf n)) (source rings g (toOf n)) (source rings g (removedOf n))
 
 -- a rule of removal commutes with the symmetries: what it names on an image, it names on the board, at its source
-abbrev pub Commutes : (ℕ → List ℕ → List ℕ) → Type 0
+abbrev pub Commutes : Rule → Type 0
 Commutes rule = (rings : ℕ) → rings ≤ 3 → (g : ℕ) → g < symmetries → (b : List ℕ) → length b ≡ 8 * rings
     → (r : ℕ) → List·Memᴰ r (rule rings (image rings g b)) → List·Memᴰ (source rings g r) (rule rings b)
 
@@ -37,7 +37,7 @@ orElse-carried : (f : ℕ → ℕ) (l k o u : List ℕ) (x : ℕ) → ((y : ℕ)
 orElse-carried f [] k o u x there back other m = orElse-second k u (λ y i. List·Memᴰ·not-nil (back y i .1)) (other m)
 orElse-carried f (a ∷ l) k o u x there back other m = orElse-first k u (there x m)
 
-module _ (rule : ℕ → List ℕ → List ℕ) (takes : TakesOpponent rule) (commutes : Commutes rule) (rings : ℕ) (few : rings ≤ 3) where
+module _ (rule : Rule) (takes : TakesOpponent rule) (commutes : Commutes rule) (rings : ℕ) (few : rings ≤ 3) where
   removal-point : (b : List ℕ) (t r : ℕ) → List·Memᴰ r (removals rule rings b t) → PointOrNone rings r
   removal-point b t r m = go (removal-cases rule rings b t m)
     where
@@ -197,16 +197,26 @@ unshielded-commutes rings few g h b points r m =
     is-unshielded rings b (source rings g r) (holding-image rings few g h b points 2 r (s .0))
     (ap not (sym (mill-image rings few g h b points 2 r (l .0))) ∙ s .1)
 
--- document 01's rule of removal commutes with the symmetries
-pub removable-commutes : Commutes (λ rings b. removable rings b)
-removable-commutes rings few g h b points r m =
+-- what may be removed if all stand in mills
+shielded-commutes : (edition : ℕ) → Commutes (ifAllShielded edition)
+unfolding ifAllShielded
+shielded-commutes edition rings few g h b points r m = go (eqb edition 2) m
+  where
+    go : (t : Bool) → List·Memᴰ r (elim t as (λ c. List ℕ) [ true ↦ [] | false ↦ holding rings (image rings g b) 2 ])
+        → List·Memᴰ (source rings g r) (elim t as (λ c. List ℕ) [ true ↦ [] | false ↦ holding rings b 2 ])
+    go true i = absurd (List·Memᴰ·not-nil i)
+    go false i = holding-image rings few g h b points 2 r i
+
+-- the rule of each edition commutes with the symmetries
+pub removable-commutes : (edition : ℕ) → Commutes (removable edition)
+removable-commutes edition rings few g h b points r m =
     let c = image rings g b in
-    subst (λ (l : List ℕ). List·Memᴰ (source rings g r) l) (sym (removable-are rings b))
-    (orElse-carried (λ p. source rings g p) (unshielded rings c) (unshielded rings b) (holding rings c 2) (holding rings b 2) r
+    subst (λ (l : List ℕ). List·Memᴰ (source rings g r) l) (sym (removable-are edition rings b))
+    (orElse-carried (λ p. source rings g p) (unshielded rings c) (unshielded rings b) (ifAllShielded edition rings c) (ifAllShielded edition rings b) r
     (λ x i. unshielded-commutes rings few g h b points x i)
     (λ x i. (
       source rings (inverse g) x,
       unshielded-commutes rings few (inverse g) (inverse-low g h) c (image-length rings g b ∙ points) x
           (subst (λ (y : List ℕ). List·Memᴰ x (unshielded rings y)) (sym (image-back rings few b points g h)) i),
     ))
-    (λ i. holding-image rings few g h b points 2 r i) (subst (λ (l : List ℕ). List·Memᴰ r l) (removable-are rings c) m))
+    (λ i. shielded-commutes edition rings few g h b points r i) (subst (λ (l : List ℕ). List·Memᴰ r l) (removable-are edition rings c) m))

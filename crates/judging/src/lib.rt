@@ -1,4 +1,4 @@
-// What the successors' entries say of a position: whether they give it a depth, which one, and whether one of them is void.
+// What the entries of a position's successors under an edition say of it: whether they give it a depth, which one, and whether one of them is void.
 mod successors;
 
 ghost use mathlib.Core.Path.{_≡_};
@@ -33,13 +33,14 @@ pub fn hits(
     binomials: &[u32; 625],
     masks: &[u32; 72],
     rings: usize,
+    edition: u8,
     starts: Starts,
     level: u32,
     position: board::Position,
 ) -> bool
     requires { ⌜ Probing (now binomials) (length (now tablebase)) rings starts position ⌝ }
     requires { ⌜ Masks rings (now masks) × (level < voidEntry) ⌝ }
-    ensures { λ r. ⌜ r ≡ hit (λ b. successors (λ n c. removable n c) rings b)
+    ensures { λ r. ⌜ r ≡ hit (successors (removable edition) rings)
         (λ b. probe (now (tablebase .entry)) (starts .same) (starts .fewer) (count 2 (boardOf (8 * rings) position)) b) level (boardOf
         (8 * rings) position) ⌝ }
 {
@@ -47,6 +48,7 @@ pub fn hits(
         let high = NOT_WON + level;
         let low = high - 1;
         let lost = Question {
+            edition: edition,
             starts: starts,
             low: low,
             high: high,
@@ -54,6 +56,7 @@ pub fn hits(
         return some_successor(tablebase, binomials, masks, rings, lost, position);
     }
     let later = Question {
+        edition: edition,
         starts: starts,
         low: level,
         high: END,
@@ -67,15 +70,17 @@ pub fn decided(
     binomials: &[u32; 625],
     masks: &[u32; 72],
     rings: usize,
+    edition: u8,
     starts: Starts,
     position: board::Position,
 ) -> bool
     requires { ⌜ Probing (now binomials) (length (now tablebase)) rings starts position ⌝ }
     requires { ⌜ Masks rings (now masks) ⌝ }
-    ensures { λ r. ⌜ r ≡ decided (λ b. successors (λ n c. removable n c) rings b)
+    ensures { λ r. ⌜ r ≡ decided (successors (removable edition) rings)
         (λ b. probe (now (tablebase .entry)) (starts .same) (starts .fewer) (count 2 (boardOf (8 * rings) position)) b) (boardOf (8 * rings) position) ⌝ }
 {
     let lost = Question {
+        edition: edition,
         starts: starts,
         low: NOT_WON,
         high: VOID_KEY,
@@ -84,6 +89,7 @@ pub fn decided(
         return true;
     }
     let other = Question {
+        edition: edition,
         starts: starts,
         low: parts::VOID_WIDE,
         high: END,
@@ -97,6 +103,7 @@ pub fn void_after(
     binomials: &[u32; 625],
     masks: &[u32; 72],
     rings: usize,
+    edition: u8,
     starts: Starts,
     position: board::Position,
 ) -> bool
@@ -104,9 +111,10 @@ pub fn void_after(
     requires { ⌜ Masks rings (now masks) ⌝ }
     ensures { λ r. ⌜ r ≡ any (λ b. eqb (probe (now (tablebase .entry)) (starts .same) (starts .fewer) (count 2 (boardOf
         (8 * rings) position)) b) voidEntry)
-        (successors (λ n c. removable n c) rings (boardOf (8 * rings) position)) ⌝ }
+        (successors (removable edition) rings (boardOf (8 * rings) position)) ⌝ }
 {
     let void = Question {
+        edition: edition,
         starts: starts,
         low: VOID_KEY,
         high: DRAW_KEY,

@@ -4,15 +4,14 @@ ghost use Prim.Native.Nat.{_*_};
 ghost use lib.ListN.{length};
 ghost use Rattle.lists.specs.Lists.{any};
 ghost use Rattle.board.specs.Board.{boardOf};
-ghost use Rattle.rules.specs.Ply.{destinations, afterPly, removable, successors};
-ghost use Rattle.plies.specs.Inner.Listing.{legalFrom};
+ghost use Rattle.rules.specs.Ply.{destinations, stoneMoves, afterPly, removable, successors};
 ghost use Rattle.masks.specs.Inner.Masks.{Masks};
 ghost use Rattle.probing.specs.Inner.Conditions.{Probing};
 ghost use Rattle.asking.specs.Inner.Questions.{Movable, entryAsked};
 use asking::Question;
 use asking::Stone;
 
-// Whether some move of one stone, to the set of its destinations, leads to a position whose entry is asked for.
+// Whether some move of one stone under the question's edition, to the set of its destinations, leads to a position whose entry is asked for.
 fn some_destination(
     tablebase: &[u16],
     binomials: &[u32; 625],
@@ -26,7 +25,8 @@ fn some_destination(
     requires { ⌜ Movable rings (now masks) position stone ⌝ }
     ensures { λ r. ⌜ r ≡ any (λ m. entryAsked (now (tablebase .entry)) question (boardOf (8 * rings) position)
         (afterPly (boardOf (8 * rings) position) m))
-        (legalFrom rings (boardOf (8 * rings) position) (stone .from) (destinations rings (boardOf (8 * rings) position) (stone .from))) ⌝ }
+        (stoneMoves (removable (question .edition)) rings (boardOf (8 * rings) position) (stone .from)
+        (destinations rings (boardOf (8 * rings) position) (stone .from))) ⌝ }
 {
     if sets::count(stone.tos) <= inserting::WALK_PAYS_ABOVE {
         return asking::some_slide(
@@ -50,7 +50,7 @@ fn some_destination(
     )
 }
 
-// Whether some successor of a position has an entry that is asked for.
+// Whether some successor of a position under the question's edition has an entry that is asked for.
 pub fn some_successor(
     tablebase: &[u16],
     binomials: &[u32; 625],
@@ -62,7 +62,7 @@ pub fn some_successor(
     requires { ⌜ Probing (now binomials) (length (now tablebase)) rings (question .starts) position ⌝ }
     requires { ⌜ Masks rings (now masks) ⌝ }
     ensures { λ r. ⌜ r ≡ any (λ c. entryAsked (now (tablebase .entry)) question (boardOf (8 * rings) position) c)
-        (successors (λ n c. removable n c) rings (boardOf (8 * rings) position)) ⌝ }
+        (successors (removable (question .edition)) rings (boardOf (8 * rings) position)) ⌝ }
 {
     let mut left = position.mover;
     while left != 0 {

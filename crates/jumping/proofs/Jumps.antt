@@ -6,17 +6,18 @@ use mathlib.Core.Logic.{inl, inr, ⊎-elim}
 use Prim.Native.Nat.{ℕ, _+_, _*_, _^_, _<_}
 use native.Mathlib.Omega.{arith}
 use lib.ListN.{set}
-use Rattle.lists.specs.Lists.{any, member}
+use Rattle.lists.specs.Lists.{any}
 use Rattle.sets.specs.Sets.{bit, with, without, elements}
 use Rattle.sets.proofs.Laws.{bit-cases, bit-without-other, without-absent}
 use Rattle.sets.proofs.Elements.{bit-low, from-one, elements-from}
 use Rattle.board.specs.declared.Position.{Position}
 use Rattle.board.specs.Board.{count, boardOf, OnBoard}
 use Rattle.board.proofs.Sides.{length-board}
-use Rattle.board.proofs.OneToOne.{vacant-at}
+use Rattle.board.proofs.OneToOne.{mover-at, vacant-at}
 use Rattle.inserting.specs.Inner.Inserting.{Inserting, Vacant}
 use Rattle.inserting.proofs.Puts.{take-mover-on, put-stone-board}
-use Rattle.rules.specs.Ply.{noRemoval, removedOf, moveNumber, legalMoves, afterPly}
+use Rattle.rules.specs.Ply.{noRemoval, removedOf, moveNumber, afterPly}
+use Rattle.rules.specs.Inner.Making.{Makeable}
 use Rattle.rules.proofs.Leads.{MoverLeft, Parts, parts-of}
 use Rattle.plies.specs.Inner.Positions.{Placed, Slide}
 use Rattle.plies.proofs.OnPositions.{opponent-small}
@@ -79,21 +80,31 @@ module _ (rings : ℕ) (position : Position) (placed : Placed rings position) (f
       (λ e. absurd (omega (arith, bit-low 24 (position .opponent) noRemoval (opponent-small rings position placed) e)))
       (bit-cases (position .opponent) noRemoval))
 
-  module _ (to : ℕ) (s : Slide rings position from to) (listed : member (moveNumber from to noRemoval) (legalMoves rings board) ≡ true) where
+  module _ (to : ℕ) (s : Slide rings position from to) where
     parts : Parts (moveNumber from to noRemoval) from to noRemoval
     parts = parts-of (moveNumber from to noRemoval) from to noRemoval (omega (arith, s .low, placed .small)) (omega arith) refl
+
+    -- a slide can be made without a removal
+    jumpable : Makeable rings board (moveNumber from to noRemoval)
+    jumpable = record {
+      from-low = rw (parts .from-is) low;
+      to-low = rw (parts .to-is) (s .low);
+      own = rw (parts .from-is) (mover-at (8 * rings) position (placed .on) from own .1);
+      vacant = rw (parts .to-is) (vacant-at (8 * rings) position (placed .on) to (s .low) (s .free) (s .none));
+      removed = inl (parts .removed-is);
+    }
 
     pub jumped : set (boardOf (8 * rings) lifted) to 2 ≡ afterPly board (moveNumber from to noRemoval)
     jumped =
         let n : ℕ = moveNumber from to noRemoval in
         sym (put-stone-board (8 * rings) lifted (lifted-placed .on) to (lifted-vacant to s) true)
-        ∙ sym (ap (boardOf (8 * rings)) (after-sets rings position placed n listed
+        ∙ sym (ap (boardOf (8 * rings)) (after-sets rings position placed n jumpable
         ∙ ap₂ sides (ap (without (position .opponent)) (parts .removed-is) ∙ none)
         (ap₂ (λ (f t : ℕ). with (without (position .mover) f) t) (parts .from-is) (parts .to-is) ∙ ap (λ (k : ℕ). with k to) (sym made))))
-        ∙ after-board rings position placed n listed
+        ∙ after-board rings position placed n jumpable
 
     pub jumped-stays : count 1 (afterPly board (moveNumber from to noRemoval)) ≡ count 2 board
-    jumped-stays = go (after-leads rings position placed (moveNumber from to noRemoval) listed .mover)
+    jumped-stays = go (after-leads rings position placed (moveNumber from to noRemoval) jumpable .mover)
       where
         go : MoverLeft board (afterPly board (moveNumber from to noRemoval)) (removedOf (moveNumber from to noRemoval))
             → count 1 (afterPly board (moveNumber from to noRemoval)) ≡ count 2 board
@@ -106,6 +117,7 @@ module _ (rings : ℕ) (position : Position) (placed : Placed rings position) (f
     placed = rw l lifted-placed;
     vacant = rw (l, e) (lifted-vacant to s);
     inserting = rw l w;
-    leads = rw (l, n, e) (λ listed. jumped to s listed);
-    stays = rw n (λ listed. jumped-stays to s listed);
+    makeable = rw n (jumpable to s);
+    leads = rw (l, n, e) (jumped to s);
+    stays = rw n (jumped-stays to s);
   }

@@ -5,8 +5,7 @@ ghost use lib.ListN.{length};
 ghost use Rattle.lists.specs.Lists.{any};
 ghost use Rattle.sets.specs.Sets.{elements};
 ghost use Rattle.board.specs.Board.{boardOf};
-ghost use Rattle.rules.specs.Ply.{destinations, afterPly};
-ghost use Rattle.plies.specs.Inner.Listing.{legalFrom};
+ghost use Rattle.rules.specs.Ply.{removable, destinations, stoneMoves, afterPly};
 ghost use Rattle.probing.specs.Inner.Conditions.{Probing};
 ghost use Rattle.asking.specs.Inner.Questions.{Movable, Removing, entryAsked};
 ghost use Rattle.jumping.specs.Inner.Jumping.{Jumping};
@@ -52,7 +51,7 @@ fn some_at(
     )
 }
 
-// Whether some move of one stone, to the set of its destinations, leads to such an entry.
+// Whether some move of one stone under the question's edition, to the set of its destinations, leads to such an entry.
 pub fn some_jump(
     tablebase: &[u16],
     binomials: &[u32; 625],
@@ -66,7 +65,8 @@ pub fn some_jump(
     requires { ⌜ Movable rings (now masks) position stone × (stone .tos ≡ 0 → ⊥) ⌝ }
     ensures { λ r. ⌜ r ≡ any (λ m. entryAsked (now (tablebase .entry)) question (boardOf (8 * rings) position)
         (afterPly (boardOf (8 * rings) position) m))
-        (legalFrom rings (boardOf (8 * rings) position) (stone .from) (destinations rings (boardOf (8 * rings) position) (stone .from))) ⌝ }
+        (stoneMoves (removable (question .edition)) rings (boardOf (8 * rings) position) (stone .from)
+        (destinations rings (boardOf (8 * rings) position) (stone .from))) ⌝ }
 {
     let lifted = board::Position {
         mover: position.opponent,
@@ -77,7 +77,14 @@ pub fn some_jump(
     while left != 0 {
         let point = sets::take_lowest(left);
         walk = inserting::go_to(binomials, 8 * rings, lifted, true, walk, point.lowest);
-        let removals = plies::removals(rings, masks, position, stone.from, point.lowest);
+        let removals = plies::removals(
+            rings,
+            question.edition,
+            masks,
+            position,
+            stone.from,
+            point.lowest,
+        );
         if some_at(
             tablebase,
             binomials,

@@ -14,11 +14,12 @@ use Rattle.lists.proofs.Tests.{clash}
 use Rattle.sizes.specs.Size.{size}
 use Rattle.ranking.specs.Rank.{rank}
 use Rattle.ranking.specs.Unrank.{unrank}
+use Rattle.rules.specs.Ply.{Rule, successors}
+use Rattle.rules.proofs.Listed.{TakesOpponent}
 use Rattle.game.specs.Game.{live, drawEntry, voidEntry, Depth}
 use Rattle.game.specs.Judgement.{hit}
 use Rattle.game.proofs.Levels.{within-fewer, within-same}
 use Rattle.outcomes.specs.Places.{placeOf, entryAt, successorEntry}
-use Rattle.outcomes.specs.Whole.{next}
 use Rattle.outcomes.specs.Pair.{Pair, pairSeed, LowerValid}
 use Rattle.outcomes.specs.Filled.{BothTables, Kept}
 use Rattle.outcomes.proofs.Boards.{place-within}
@@ -33,6 +34,7 @@ use Rattle.game.proofs.Classes.{depth-hit-now, written, written-symmetric}
 use Rattle.invariance.specs.Symmetric.{LowerSymmetric}
 use Rattle.invariance.proofs.Groups.{Group}
 use Rattle.invariance.proofs.PairMaps.{pair-maps}
+use Rattle.invariance.proofs.Plies.{Commutes}
 use Rattle.tables.specs.declared.Table.{Table}
 use Rattle.deciding.specs.Inner.Open.{boardAt, judged}
 use Rattle.levels.proofs.Sides.{Side, ranked-is, place-is, entry-is, hit-is}
@@ -43,21 +45,22 @@ use Rattle.levels.proofs.Views.{opened, opened-mark, opened-other, view
 use Rattle.levels.proofs.Written.{seen-elsewhere, same-on, apart, written-kept, written-others, written-images}
 use Rattle.levels.proofs.Judging.{image-own, Judging}
 
-module _ (rings k m o : ℕ) (pair : Pair rings k m o) (before : List ℕ) (valid : LowerValid rings k m o before) (maps : ℕ) (group : Group maps)
+module _ (rule : Rule) (takes : TakesOpponent rule) (commutes : Commutes rule) (rings k m o : ℕ) (pair : Pair rings k m o) (before : List ℕ)
+    (valid : LowerValid rings k m o before) (maps : ℕ) (group : Group maps)
     (mirrored : LowerSymmetric maps rings k m o before) where
-  abbrev mapped : Maps (next rings) (λ b. pairSeed rings k m o before b) (OnPair rings m o) maps (λ g b. image rings g b)
-  mapped = pair-maps rings k m o pair maps group before mirrored
+  abbrev mapped : Maps (successors rule rings) (λ b. pairSeed rings k m o before b) (OnPair rings m o) maps (λ g b. image rings g b)
+  mapped = pair-maps rule takes commutes rings k m o pair maps group before mirrored
 
   abbrev DepthIs : ℕ → List ℕ → Type 0
-  DepthIs n p = Depth (next rings) (λ b. pairSeed rings k m o before b) n p
+  DepthIs n p = Depth (successors rule rings) (λ b. pairSeed rings k m o before b) n p
 
   abbrev Of : List ℕ → List ℕ → Type 0
-  Of p q = Image (next rings) (λ b. pairSeed rings k m o before b) (OnPair rings m o) maps (λ g b. image rings g b) p q
+  Of p q = Image (successors rule rings) (λ b. pairSeed rings k m o before b) (OnPair rings m o) maps (λ g b. image rings g b) p q
 
   module _ (x y : ℕ) (t : Table) (same : ℕ) (side : Side rings k m o x y t same) (level : ℕ) (low : level < voidEntry) (D : List ℕ → Type 0) where
     -- what holds before rank n
     abbrev JudgedTo : ℕ → List ℕ → Type 0
-    JudgedTo n now = Judging rings k m o pair before valid maps group mirrored x y t same side level low D n now
+    JudgedTo n now = Judging rule takes commutes rings k m o pair before valid maps group mirrored x y t same side level low D n now
 
     module _ (n : ℕ) (h : n < size (8 * rings) x y) (now : List ℕ) (w : JudgedTo n now) where
       in-b : InTable rings x y (unrank (8 * rings) x y n)
@@ -77,9 +80,10 @@ module _ (rings k m o : ℕ) (pair : Pair rings k m o) (before : List ℕ) (vali
       marked-is = ap (λ (e : ℕ). eqb e voidEntry) (entry-is rings k m o pair x y t same side n h now)
 
       -- what the code reads of the successors
-      seen-is : hit (next rings) (judged rings t same now) level (boardAt rings t same n)
-          ≡ hit (next rings) (view rings k now) level (unrank (8 * rings) x y n)
-      seen-is = hit-is rings k m o pair x y t same side n h now level ∙ sym (hit-view rings k level (omega arith) now (unrank (8 * rings) x y n))
+      seen-is : hit (successors rule rings) (judged rings t same now) level (boardAt rings t same n)
+          ≡ hit (successors rule rings) (view rings k now) level (unrank (8 * rings) x y n)
+      seen-is = hit-is rule takes rings k m o pair x y t same side n h now level ∙ sym
+          (hit-view rule rings k level (omega arith) now (unrank (8 * rings) x y n))
 
       -- the board of rank n is told by its rank
       rank-b : (q : List ℕ) → InTable rings x y q → rank q ≡ n → q ≡ unrank (8 * rings) x y n
@@ -110,7 +114,7 @@ module _ (rings k m o : ℕ) (pair : Pair rings k m o) (before : List ℕ) (vali
         open-b = opened-mark _ (pair-entry rings k m o pair before valid now (unrank (8 * rings) x y n) own-b ∙ mark)
 
         -- missed: open again
-        module _ (miss : hit (next rings) (view rings k now) level (unrank (8 * rings) x y n) ≡ false) where
+        module _ (miss : hit (successors rule rings) (view rings k now) level (unrank (8 * rings) x y n) ≡ false) where
           reset-here : entryAt rings k (set now (placeOf rings k (unrank (8 * rings) x y n)) drawEntry) (unrank (8 * rings) x y n) ≡ drawEntry
           reset-here =
               written-here rings k now (unrank (8 * rings) x y n) drawEntry
@@ -143,7 +147,8 @@ module _ (rings k m o : ℕ) (pair : Pair rings k m o) (before : List ℕ) (vali
           -- b has not the level's depth
           shallow : DepthIs level (unrank (8 * rings) x y n) → ⊥
           shallow d =
-              clash (depth-hit-now (next rings) (λ c. pairSeed rings k m o before c) (OnPair rings m o) (pair-ground rings k m o pair before valid) level low
+              clash (depth-hit-now (successors rule rings) (λ c. pairSeed rings k m o before c) (OnPair rings m o)
+              (pair-ground rule takes rings k m o pair before valid) level low
               (view rings k now) D (w .amid) (unrank (8 * rings) x y n) on-b live-b d) miss
 
           missed : JudgedTo (suc n) (set now (placeOf rings k (unrank (8 * rings) x y n)) drawEntry)
@@ -152,9 +157,11 @@ module _ (rings k m o : ℕ) (pair : Pair rings k m o) (before : List ℕ) (vali
                 (subst (λ (j : ℕ). Kept rings k (BothTables m o) now (set now j drawEntry)) (sym (place-unrank rings k x y n h))
                 (kept-set rings k (BothTables m o) now x y n drawEntry (side .both) h));
             room = length-set now (placeOf rings k (unrank (8 * rings) x y n)) drawEntry ∙ w .room;
-            amid = within-same (next rings) (λ c. pairSeed rings k m o before c) (OnPair rings m o) (pair-ground rings k m o pair before valid) level low
+            amid = within-same (successors rule rings) (λ c. pairSeed rings k m o before c) (OnPair rings m o)
+                (pair-ground rule takes rings k m o pair before valid) level low
                 (view rings k now) (view rings k (set now (placeOf rings k (unrank (8 * rings) x y n)) drawEntry)) reset-view D (w .amid);
-            symmetric = symmetric-same (next rings) (λ c. pairSeed rings k m o before c) (OnPair rings m o) maps (λ g c. image rings g c) mapped
+            symmetric = symmetric-same (successors rule rings) (λ c. pairSeed rings k m o before c) (OnPair rings m o) maps (λ g c. image rings g c)
+                mapped
                 (view rings k now)
                 (view rings k (set now (placeOf rings k (unrank (8 * rings) x y n)) drawEntry)) reset-view (w .symmetric);
             marks = λ q i v. go q i v (same-on rings k m o pair (unrank (8 * rings) x y n) q own-b (on-pair i));
@@ -177,14 +184,16 @@ module _ (rings k m o : ℕ) (pair : Pair rings k m o) (before : List ℕ) (vali
                   inr (
                     q,
                     f,
-                    reset-entry q (pair-table (side .both) (image-own rings k m o pair before valid maps group mirrored x y p q i f))
+                    reset-entry q (pair-table (side .both) (image-own rule takes commutes rings k m o pair before valid maps group mirrored x y p q i
+                        f))
                         (λ e. shallow (subst (DepthIs level) e
-                        (image-depth (next rings) (λ c. pairSeed rings k m o before c) (OnPair rings m o) maps (λ g c. image rings g c) mapped
-                        (pair-ground rings k m o pair before valid .closed) level p q (on-pair (pair-table (side .both) i)) f d))) ∙ v,
+                        (image-depth (successors rule rings) (λ c. pairSeed rings k m o before c) (OnPair rings m o) maps (λ g c. image rings g c)
+                        mapped
+                        (pair-ground rule takes rings k m o pair before valid .closed) level p q (on-pair (pair-table (side .both) i)) f d))) ∙ v,
                   )
 
         -- hit: the level at all images
-        module _ (found : hit (next rings) (view rings k now) level (unrank (8 * rings) x y n) ≡ true) where
+        module _ (found : hit (successors rule rings) (view rings k now) level (unrank (8 * rings) x y n) ≡ true) where
           few : maps ≤ symmetries
           few = group .high
 
@@ -197,7 +206,8 @@ module _ (rings k m o : ℕ) (pair : Pair rings k m o) (before : List ℕ) (vali
               maps few q i
 
           own-image : (q : List ℕ) → Of (unrank (8 * rings) x y n) q → InPair rings m o q
-          own-image q i = pair-table (side .both) (image-own rings k m o pair before valid maps group mirrored x y (unrank (8 * rings) x y n) q in-b i)
+          own-image q i = pair-table (side .both) (image-own rule takes commutes rings k m o pair before valid maps group mirrored x y
+              (unrank (8 * rings) x y n) q in-b i)
 
           here-view : (q : List ℕ) → Of (unrank (8 * rings) x y n) q → view rings k all-written q ≡ level
           here-view q i =
@@ -222,14 +232,15 @@ module _ (rings k m o : ℕ) (pair : Pair rings k m o) (before : List ℕ) (vali
             kept = kept-then rings k (BothTables m o) before now all-written (w .kept)
                 (written-kept rings k m o pair x y (side .both) (unrank (8 * rings) x y n) in-b (t .own .start) (side .located .start-is) level now maps few);
             room = images-length rings (t .own .start) (unrank (8 * rings) x y n) level now maps ∙ w .room;
-            amid = within-fewer (next rings) (λ c. pairSeed rings k m o before c) (OnPair rings m o) (view rings k all-written) level
+            amid = within-fewer (successors rule rings) (λ c. pairSeed rings k m o before c) (OnPair rings m o) (view rings k all-written) level
                 (λ q. D q ⊎ Of (unrank (8 * rings) x y n) q) D (λ q d. inl d)
-                (written (next rings) (λ c. pairSeed rings k m o before c) (OnPair rings m o) (pair-ground rings k m o pair before valid) level low maps
+                (written (successors rule rings) (λ c. pairSeed rings k m o before c) (OnPair rings m o)
+                (pair-ground rule takes rings k m o pair before valid) level low maps
                 (λ g c. image rings g c) mapped (view rings k now) D (w .amid) (w .symmetric) (unrank (8 * rings) x y n) on-b live-b
                 (view rings k all-written) open-b found
                 here-view (λ q s out. ap (λ (e : ℕ). opened e) (elsewhere q s out)) either);
-            symmetric = written-symmetric (next rings) (λ c. pairSeed rings k m o before c) (OnPair rings m o)
-                (pair-ground rings k m o pair before valid) level low maps
+            symmetric = written-symmetric (successors rule rings) (λ c. pairSeed rings k m o before c) (OnPair rings m o)
+                (pair-ground rule takes rings k m o pair before valid) level low maps
                 (λ g c. image rings g c) mapped (view rings k now) D (w .amid) (w .symmetric) (unrank (8 * rings) x y n) on-b live-b
                 (view rings k all-written) open-b found
                 here-view (λ q s out. ap (λ (e : ℕ). opened e) (elsewhere q s out)) either;
@@ -244,7 +255,8 @@ module _ (rings k m o : ℕ) (pair : Pair rings k m o) (before : List ℕ) (vali
                   let a = w .marks q i (sym (elsewhere-own q i out) ∙ v) in (
                     a .0,
                     later q (a .0) (a .1) (λ e. out (subst (Of (unrank (8 * rings) x y n)) (sym e)
-                        (image-self (next rings) (λ c. pairSeed rings k m o before c) (OnPair rings m o) maps (λ g c. image rings g c) mapped
+                        (image-self (successors rule rings) (λ c. pairSeed rings k m o before c) (OnPair rings m o) maps (λ g c. image rings g c)
+                        mapped
                         (unrank (8 * rings) x y n)
                         on-b))),
                   )
@@ -259,23 +271,27 @@ module _ (rings k m o : ℕ) (pair : Pair rings k m o) (before : List ℕ) (vali
                   inr (
                     q,
                     f,
-                    elsewhere-own q (pair-table (side .both) (image-own rings k m o pair before valid maps group mirrored x y p q i f))
+                    elsewhere-own q (pair-table (side .both) (image-own rule takes commutes rings k m o pair before valid maps group mirrored x y p q
+                        i f))
                         (λ a. out
-                        (image-trans (next rings) (λ c. pairSeed rings k m o before c) (OnPair rings m o) maps (λ g c. image rings g c) mapped
+                        (image-trans (successors rule rings) (λ c. pairSeed rings k m o before c) (OnPair rings m o) maps (λ g c. image rings g c)
+                        mapped
                         (unrank (8 * rings) x y n)
                         q p on-b a
-                        (image-sym (next rings) (λ c. pairSeed rings k m o before c) (OnPair rings m o) maps (λ g c. image rings g c) mapped p q s f))) ∙ v,
+                        (image-sym (successors rule rings) (λ c. pairSeed rings k m o before c) (OnPair rings m o) maps (λ g c. image rings g c)
+                        mapped p q s f))) ∙ v,
                   )
 
       -- one position judged
-      pub judged-step : JudgedTo (suc n) (judgedClass rings t same level maps now n)
+      pub judged-step : JudgedTo (suc n) (judgedClass rule rings t same level maps now n)
       unfolding judgedClass
       judged-step =
-          go (eqb (entryAt rings k now (unrank (8 * rings) x y n)) voidEntry) refl (hit (next rings) (view rings k now) level (unrank (8 * rings) x y n)) refl
+          go (eqb (entryAt rings k now (unrank (8 * rings) x y n)) voidEntry) refl
+          (hit (successors rule rings) (view rings k now) level (unrank (8 * rings) x y n)) refl
         where
           go : (a : Bool) → eqb (entryAt rings k now (unrank (8 * rings) x y n)) voidEntry ≡ a
-              → (c : Bool) → hit (next rings) (view rings k now) level (unrank (8 * rings) x y n) ≡ c
-              → JudgedTo (suc n) (judgedClass rings t same level maps now n)
+              → (c : Bool) → hit (successors rule rings) (view rings k now) level (unrank (8 * rings) x y n) ≡ c
+              → JudgedTo (suc n) (judgedClass rule rings t same level maps now n)
           go false e c f = rw (marked-is ∙ e, judgedClass) (unmarked (eqb-false (entryAt rings k now (unrank (8 * rings) x y n)) voidEntry e))
           go true e true f =
               rw (marked-is ∙ e, seen-is ∙ f, ranked-is rings k m o pair x y t same side n, judgedClass)
@@ -285,7 +301,8 @@ module _ (rings k m o : ℕ) (pair : Pair rings k m o) (before : List ℕ) (vali
               (missed (eqb-true (entryAt rings k now (unrank (8 * rings) x y n)) voidEntry e) f)
 
     -- place after place
-    pub judged-all : (now : List ℕ) → JudgedTo 0 now → (n : ℕ) → n ≤ size (8 * rings) x y → JudgedTo n (judgedFirst rings t same level maps now n)
+    pub judged-all : (now : List ℕ) → JudgedTo 0 now → (n : ℕ) → n ≤ size (8 * rings) x y
+        → JudgedTo n (judgedFirst rule rings t same level maps now n)
     unfolding judgedFirst
     judged-all now w zero h = w
-    judged-all now w (suc n) h = judged-step n h (judgedFirst rings t same level maps now n) (judged-all now w n (omega arith))
+    judged-all now w (suc n) h = judged-step n h (judgedFirst rule rings t same level maps now n) (judged-all now w n (omega arith))

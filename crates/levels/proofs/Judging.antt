@@ -9,10 +9,11 @@ use lib.ListN.{length}
 use Rattle.sizes.specs.Size.{size}
 use Rattle.ranking.specs.Rank.{rank}
 use Rattle.layout.specs.Layout.{tablebaseLength}
+use Rattle.rules.specs.Ply.{Rule, successors}
+use Rattle.rules.proofs.Listed.{TakesOpponent}
 use Rattle.game.specs.Game.{voidEntry, Depth}
 use Rattle.game.proofs.Levels.{Within}
 use Rattle.outcomes.specs.Places.{entryAt}
-use Rattle.outcomes.specs.Whole.{next}
 use Rattle.outcomes.specs.Pair.{Pair, pairSeed, LowerValid}
 use Rattle.outcomes.specs.Filled.{BothTables, Kept}
 use Rattle.outcomes.proofs.Ranked.{InTable, rank-in}
@@ -22,27 +23,29 @@ use Rattle.game.proofs.Maps.{Maps, Image, Symmetric}
 use Rattle.invariance.specs.Symmetric.{LowerSymmetric}
 use Rattle.invariance.proofs.Groups.{Group}
 use Rattle.invariance.proofs.PairMaps.{pair-maps, image-table}
+use Rattle.invariance.proofs.Plies.{Commutes}
 use Rattle.tables.specs.declared.Table.{Table}
 use Rattle.levels.proofs.Sides.{Side}
 use Rattle.levels.proofs.Views.{view}
 
-module _ (rings k m o : ℕ) (pair : Pair rings k m o) (before : List ℕ) (valid : LowerValid rings k m o before) (maps : ℕ) (group : Group maps)
+module _ (rule : Rule) (takes : TakesOpponent rule) (commutes : Commutes rule) (rings k m o : ℕ) (pair : Pair rings k m o) (before : List ℕ)
+    (valid : LowerValid rings k m o before) (maps : ℕ) (group : Group maps)
     (mirrored : LowerSymmetric maps rings k m o before) where
-  abbrev pub mapped : Maps (next rings) (λ b. pairSeed rings k m o before b) (OnPair rings m o) maps (λ g b. image rings g b)
-  mapped = pair-maps rings k m o pair maps group before mirrored
+  abbrev pub mapped : Maps (successors rule rings) (λ b. pairSeed rings k m o before b) (OnPair rings m o) maps (λ g b. image rings g b)
+  mapped = pair-maps rule takes commutes rings k m o pair maps group before mirrored
 
   -- in the middle of a level, marks read as open
   abbrev pub AmidMarks : ℕ → (List ℕ → Type 0) → List ℕ → Type 0
-  AmidMarks n D now = Within (next rings) (λ b. pairSeed rings k m o before b) (OnPair rings m o) (view rings k now) n D
+  AmidMarks n D now = Within (successors rule rings) (λ b. pairSeed rings k m o before b) (OnPair rings m o) (view rings k now) n D
 
   abbrev pub SymmetricTable : (List ℕ → ℕ) → Type 0
-  SymmetricTable = Symmetric (next rings) (λ b. pairSeed rings k m o before b) (OnPair rings m o) maps (λ g b. image rings g b)
+  SymmetricTable = Symmetric (successors rule rings) (λ b. pairSeed rings k m o before b) (OnPair rings m o) maps (λ g b. image rings g b)
 
   abbrev pub DepthIs : ℕ → List ℕ → Type 0
-  DepthIs n p = Depth (next rings) (λ b. pairSeed rings k m o before b) n p
+  DepthIs n p = Depth (successors rule rings) (λ b. pairSeed rings k m o before b) n p
 
   abbrev pub Of : List ℕ → List ℕ → Type 0
-  Of p q = Image (next rings) (λ b. pairSeed rings k m o before b) (OnPair rings m o) maps (λ g b. image rings g b) p q
+  Of p q = Image (successors rule rings) (λ b. pairSeed rings k m o before b) (OnPair rings m o) maps (λ g b. image rings g b) p q
 
   -- an image is of the same table
   pub image-own : (x y : ℕ) (p q : List ℕ) → InTable rings x y p → Of p q → InTable rings x y q

@@ -20,7 +20,7 @@ use Rattle.sweeping.specs.Inner.Levels.{sameSource, lowerSource, levelMarks}
 use Rattle.layers.specs.Inner.Layers.{isSource, markedFrom}
 use Rattle.levels.proofs.Sources.{MarkedIn, MarkedPart, part-then, closed-still, from-marked, source-same, from-closed}
 
-module _ (rings : ℕ) (t : Table) (same level maps : ℕ) (picked : List ℕ → Bool) (low : level < voidEntry) (three : 3 ≤ t .opponent) (clean : List ℕ)
+module _ (rings : ℕ) (t : Table) (same level : ℕ) (picked : List ℕ → Bool) (low : level < voidEntry) (three : 3 ≤ t .opponent) (clean : List ℕ)
     (fits : Fits (length clean) rings t same) where
   abbrev own : ℕ
   own = size (8 * rings) (t .mover) (t .opponent)
@@ -33,13 +33,13 @@ module _ (rings : ℕ) (t : Table) (same level maps : ℕ) (picked : List ℕ �
       from-marked rings t (sameSource t same) false (same-leads t same) (level - 1) (omega arith) picked clean
       (size (8 * rings) (t .opponent) (t .mover)) (omega arith)
 
-  rest-marked : MarkedPart (t .own .start) own once (levelMarks rings t same level maps picked clean)
+  rest-marked : MarkedPart (t .own .start) own once (levelMarks rings t same level picked clean)
   unfolding levelMarks
   rest-marked =
       from-marked rings t (lowerSource t) true (lower-leads t three) (level - 1) (omega arith) picked once
       (size (8 * rings) (t .opponent - 1) (t .mover)) (omega arith)
 
-  pub all-marked : MarkedPart (t .own .start) own clean (levelMarks rings t same level maps picked clean)
+  pub all-marked : MarkedPart (t .own .start) own clean (levelMarks rings t same level picked clean)
   all-marked = part-then once-marked rest-marked
 
   -- an open board before a picked one of the depth below is marked
@@ -47,18 +47,18 @@ module _ (rings : ℕ) (t : Table) (same level maps : ℕ) (picked : List ℕ �
     fits-in : t .own .start + rank p < length clean
     fits-in = omega (arith, fits .end-is, fits .room, rank-in rings (t .mover) (t .opponent) p i)
 
-    closed-marked : (getD (levelMarks rings t same level maps picked clean) (t .own .start + rank p) 0 ≡ drawEntry → ⊥)
-        → getD (levelMarks rings t same level maps picked clean) (t .own .start + rank p) 0 ≡ voidEntry
+    closed-marked : (getD (levelMarks rings t same level picked clean) (t .own .start + rank p) 0 ≡ drawEntry → ⊥)
+        → getD (levelMarks rings t same level picked clean) (t .own .start + rank p) 0 ≡ voidEntry
     closed-marked c = go (all-marked .at (t .own .start + rank p))
       where
-        go : MarkedIn (t .own .start) own clean (levelMarks rings t same level maps picked clean) (t .own .start + rank p)
-            → getD (levelMarks rings t same level maps picked clean) (t .own .start + rank p) 0 ≡ voidEntry
+        go : MarkedIn (t .own .start) own clean (levelMarks rings t same level picked clean) (t .own .start + rank p)
+            → getD (levelMarks rings t same level picked clean) (t .own .start + rank p) 0 ≡ voidEntry
         go (inl e) = absurd (c (e ∙ blank))
         go (inr e) = e .1
 
     pub same-found : (q : List ℕ) → InTable rings (t .opponent) (t .mover) q → List·Memᴰ p (predecessors false rings q) → picked q ≡ true
         → isSource (sameSource t same) (level - 1) clean (rank q) ≡ true
-        → getD (levelMarks rings t same level maps picked clean) (t .own .start + rank p) 0 ≡ voidEntry
+        → getD (levelMarks rings t same level picked clean) (t .own .start + rank p) 0 ≡ voidEntry
     same-found q j f c e =
         let back = sym (unrank-of rings (t .opponent) (t .mover) q j) in
         closed-marked (closed-still rest-marked (t .own .start + rank p)
@@ -69,7 +69,7 @@ module _ (rings : ℕ) (t : Table) (same level maps : ℕ) (picked : List ℕ �
 
     pub lower-found : (q : List ℕ) → InTable rings (t .opponent - 1) (t .mover) q → List·Memᴰ p (predecessors true rings q) → picked q ≡ true
         → isSource (lowerSource t) (level - 1) clean (rank q) ≡ true
-        → getD (levelMarks rings t same level maps picked clean) (t .own .start + rank p) 0 ≡ voidEntry
+        → getD (levelMarks rings t same level picked clean) (t .own .start + rank p) 0 ≡ voidEntry
     unfolding levelMarks
     lower-found q j f c e =
         let back = sym (unrank-of rings (t .opponent - 1) (t .mover) q j) in

@@ -9,17 +9,18 @@ use native.Mathlib.Decide.{ℕ-discrete}
 use native.Mathlib.Omega.{arith}
 use lib.Dec.{eqb}
 use lib.ListN.{length, set}
-use Rattle.lists.specs.Lists.{isEmpty}
 use Rattle.sizes.specs.Size.{size}
 use Rattle.ranking.specs.Rank.{rank}
 use Rattle.ranking.specs.Unrank.{unrank}
 use Rattle.layout.specs.Layout.{tablebaseLength}
+use Rattle.rules.specs.Ply.{Rule, successors, blocked}
+use Rattle.rules.proofs.Blocked.{blocked-successors}
+use Rattle.rules.proofs.Listed.{TakesOpponent}
 use Rattle.game.specs.Game.{drawEntry}
 use Rattle.game.specs.Judgement.{hit}
 use Rattle.game.proofs.Hits.{hit-zero}
 use Rattle.game.proofs.Levels.{within-fewer}
 use Rattle.outcomes.specs.Places.{placeOf, entryAt, successorEntry}
-use Rattle.outcomes.specs.Whole.{next}
 use Rattle.outcomes.specs.Pair.{Pair, pairSeed, LowerValid}
 use Rattle.outcomes.specs.Filled.{BothTables, Kept}
 use Rattle.outcomes.proofs.Ranked.{InTable, rank-in, unrank-of}
@@ -33,24 +34,9 @@ use Rattle.levels.proofs.Sides.{Side, ranked-is, board-in, place-is, op
 
 module _ (rings k m o : ℕ) (pair : Pair rings k m o) (x y : ℕ) (t : Table) (same : ℕ) (side : Side rings k m o x y t same) where
   module _ (r : ℕ) (h : r < size (8 * rings) x y) (now : List ℕ) where
-    -- the place of rank r gets 0 where the level hits it
-    blocked-is : blockedPlace rings t now r
-        ≡ elim (eqb (entryAt rings k now (unrank (8 * rings) x y r)) drawEntry && hit (next rings) (λ b. successorEntry rings k now b) 0
-        (unrank (8 * rings) x y r)) [
-          | true ↦ set now (placeOf rings k (unrank (8 * rings) x y r)) 0
-          | false ↦ now
-        ]
-    unfolding blockedPlace
-    blocked-is =
-        ap₂ (λ (b : Bool) (i : ℕ). elim b as (λ d. List ℕ) [ true ↦ set now i 0 | false ↦ now ])
-        (ap₂ (λ (a b : Bool). a && b) (open-is rings k m o pair x y t same side r h now)
-        (ap (λ (b : List ℕ). isEmpty (next rings b)) (ranked-is rings k m o pair x y t same side r)
-        ∙ sym (hit-zero (next rings) (λ b. successorEntry rings k now b) (unrank (8 * rings) x y r))))
-        (place-is rings k m o pair x y t same side r h)
-
     place-kept : Kept rings k (BothTables m o) now (blockedPlace rings t now r)
     unfolding blockedPlace
-    place-kept = go (isOpen t now r && isEmpty (next rings (boardAt rings t same r)))
+    place-kept = go (isOpen t now r && blocked rings (boardAt rings t same r))
       where
         go : (b : Bool) → Kept rings k (BothTables m o) now (elim b [ true ↦ set now (t .own .start + r) 0 | false ↦ now ])
         go true = subst (λ (s : ℕ). Kept rings k (BothTables m o) now (set now (s + r) 0)) (sym (side .located .start-is))
@@ -65,14 +51,34 @@ module _ (rings k m o : ℕ) (pair : Pair rings k m o) (x y : ℕ) (t : Table) (
       kept-then rings k (BothTables m o) now (blockedFirst rings t now n) (blockedFirst rings t now (suc n)) (blocked-kept now n (omega arith))
       (place-kept n (omega arith) (blockedFirst rings t now n))
 
+module _ (rule : Rule) (takes : TakesOpponent rule) (rings k m o : ℕ) (pair : Pair rings k m o) (x y : ℕ) (t : Table) (same : ℕ)
+    (side : Side rings k m o x y t same) where
+  module _ (r : ℕ) (h : r < size (8 * rings) x y) (now : List ℕ) where
+    -- the place of rank r gets 0 where the level hits it
+    blocked-is : blockedPlace rings t now r
+        ≡ elim (eqb (entryAt rings k now (unrank (8 * rings) x y r)) drawEntry && hit (successors rule rings) (λ b. successorEntry rings k now b) 0
+        (unrank (8 * rings) x y r)) [
+          | true ↦ set now (placeOf rings k (unrank (8 * rings) x y r)) 0
+          | false ↦ now
+        ]
+    unfolding blockedPlace
+    blocked-is =
+        ap₂ (λ (b : Bool) (i : ℕ). elim b as (λ d. List ℕ) [ true ↦ set now i 0 | false ↦ now ])
+        (ap₂ (λ (a b : Bool). a && b) (open-is rings k m o pair x y t same side r h now)
+        (ap (blocked rings) (ranked-is rings k m o pair x y t same side r)
+        ∙ sym (blocked-successors rule rings (unrank (8 * rings) x y r))
+        ∙ sym (hit-zero (successors rule rings) (λ b. successorEntry rings k now b) (unrank (8 * rings) x y r))))
+        (place-is rings k m o pair x y t same side r h)
+
   module _ (before : List ℕ) (valid : LowerValid rings k m o before) (D : List ℕ → Type 0) where
     -- the positions done: those of D, and those of the first n ranks
     abbrev Done : ℕ → List ℕ → Type 0
     Done n b = D b ⊎ ((r : ℕ) × (r < n) × (b ≡ unrank (8 * rings) x y r))
 
-    fewer : (E F : List ℕ → Type 0) (now : List ℕ) → ((b : List ℕ) → F b → E b) → Amid rings k m o pair before valid 0 E now
-        → Amid rings k m o pair before valid 0 F now
-    fewer E F now = within-fewer (next rings) (λ c. pairSeed rings k m o before c) (OnPair rings m o) (λ b. successorEntry rings k now b) 0 E F
+    fewer : (E F : List ℕ → Type 0) (now : List ℕ) → ((b : List ℕ) → F b → E b) → Amid rule takes rings k m o pair before valid 0 E now
+        → Amid rule takes rings k m o pair before valid 0 F now
+    fewer E F now = within-fewer (successors rule rings) (λ c. pairSeed rings k m o before c) (OnPair rings m o) (λ b. successorEntry rings k now b) 0
+        E F
 
     last : (n : ℕ) (b : List ℕ) → Done (suc n) b → Done n b ⊎ (b ≡ unrank (8 * rings) x y n)
     last n b (inl d) = inl (inl d)
@@ -82,8 +88,8 @@ module _ (rings k m o : ℕ) (pair : Pair rings k m o) (x y : ℕ) (t : Table) (
         go (yes q) = inr (e ∙ ap (unrank (8 * rings) x y) q)
         go (no d) = inl (inr (r, omega (arith, d), e))
 
-    blocked-amid : (now : List ℕ) → length now ≡ tablebaseLength (8 * rings) k → Amid rings k m o pair before valid 0 D now
-        → (n : ℕ) → n ≤ size (8 * rings) x y → Amid rings k m o pair before valid 0 (Done n) (blockedFirst rings t now n)
+    blocked-amid : (now : List ℕ) → length now ≡ tablebaseLength (8 * rings) k → Amid rule takes rings k m o pair before valid 0 D now
+        → (n : ℕ) → n ≤ size (8 * rings) x y → Amid rule takes rings k m o pair before valid 0 (Done n) (blockedFirst rings t now n)
     unfolding blockedFirst
     blocked-amid now room w zero h = fewer D (Done zero) now none w
       where
@@ -92,14 +98,14 @@ module _ (rings k m o : ℕ) (pair : Pair rings k m o) (x y : ℕ) (t : Table) (
         none b (inr (r, l, e)) = absurd (omega arith)
     blocked-amid now room w (suc n) h =
         fewer (λ b. Done n b ⊎ (b ≡ unrank (8 * rings) x y n)) (Done (suc n)) (blockedFirst rings t now (suc n)) (last n)
-        (visited rings k m o pair before valid 0 (omega arith) (blockedFirst rings t now n)
-        (blocked-kept now n (omega arith) .same-length ∙ room)
+        (visited rule takes rings k m o pair before valid 0 (omega arith) (blockedFirst rings t now n)
+        (blocked-kept rings k m o pair x y t same side now n (omega arith) .same-length ∙ room)
         (unrank (8 * rings) x y n) (board-in rings k m o pair x y t same side n (omega arith)) (Done n) (blocked-amid now room w n (omega arith))
         (blockedPlace rings t (blockedFirst rings t now n) n) (blocked-is n (omega arith) (blockedFirst rings t now n)))
 
     -- the whole table
-    pub blocked-table : (now : List ℕ) → length now ≡ tablebaseLength (8 * rings) k → Amid rings k m o pair before valid 0 D now
-        → Amid rings k m o pair before valid 0 (λ b. D b ⊎ InTable rings x y b) (blockedFirst rings t now (size (8 * rings) x y))
+    pub blocked-table : (now : List ℕ) → length now ≡ tablebaseLength (8 * rings) k → Amid rule takes rings k m o pair before valid 0 D now
+        → Amid rule takes rings k m o pair before valid 0 (λ b. D b ⊎ InTable rings x y b) (blockedFirst rings t now (size (8 * rings) x y))
     blocked-table now room w =
         fewer (Done (size (8 * rings) x y)) (λ b. D b ⊎ InTable rings x y b) (blockedFirst rings t now (size (8 * rings) x y)) done
         (blocked-amid now room w (size (8 * rings) x y) (omega arith))

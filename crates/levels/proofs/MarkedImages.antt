@@ -12,14 +12,13 @@ use borrow.Author.Tests.{ltb-true, ltb-false}
 use Rattle.board.specs.Board.{Values, count}
 use Rattle.ranking.specs.Rank.{rank}
 use Rattle.layout.specs.Layout.{start}
-use Rattle.rules.specs.Ply.{removable}
-use Rattle.rules.proofs.Listed.{successor-of, removable-takes}
+use Rattle.rules.specs.Ply.{Rule, successors}
+use Rattle.rules.proofs.Listed.{successor-of, TakesOpponent}
 use Rattle.rules.proofs.Leads.{ply-leads}
 use Rattle.rules.proofs.Found.{Predecessor, found}
 use Rattle.game.specs.Game.{drawEntry, voidEntry, Depth}
 use Rattle.game.proofs.Levels.{Fresh, Within}
 use Rattle.outcomes.specs.Places.{placeOf, entryAt, successorEntry}
-use Rattle.outcomes.specs.Whole.{next}
 use Rattle.outcomes.specs.Pair.{Pair, pairSeed, LowerValid}
 use Rattle.outcomes.proofs.Ranked.{InTable, place-at}
 use Rattle.outcomes.proofs.PairGame.{OnPair, InPair, on-pair, pair-table}
@@ -30,6 +29,7 @@ use Rattle.game.proofs.Mapped.{sources-image, map-depth}
 use Rattle.invariance.specs.Symmetric.{LowerSymmetric}
 use Rattle.invariance.proofs.Groups.{Group}
 use Rattle.invariance.proofs.PairMaps.{image-table}
+use Rattle.invariance.proofs.Plies.{Commutes}
 use Rattle.classing.proofs.Picked.{Picks}
 use Rattle.tables.specs.declared.Table.{Table}
 use Rattle.deciding.specs.Inner.Fits.{Fits}
@@ -40,16 +40,17 @@ use Rattle.layers.specs.Inner.Layers.{isSource}
 use Rattle.levels.proofs.Judging.{mapped, SymmetricTable}
 use Rattle.levels.proofs.LevelMarks.{same-found, lower-found, source-stored, source-two}
 
-module _ (rings k m o : ℕ) (pair : Pair rings k m o) (before : List ℕ) (valid : LowerValid rings k m o before) (maps : ℕ) (group : Group maps)
+module _ (rule : Rule) (takes : TakesOpponent rule) (commutes : Commutes rule) (rings k m o : ℕ) (pair : Pair rings k m o) (before : List ℕ)
+    (valid : LowerValid rings k m o before) (maps : ℕ) (group : Group maps)
     (mirrored : LowerSymmetric maps rings k m o before) (picked : List ℕ → Bool) (picks : Picks rings maps picked)
     (x y : ℕ) (t : Table) (same : ℕ) (side : Side rings k m o x y t same) (level : ℕ) (pos : 0 < level) (low : level < voidEntry) (clean : List ℕ)
-    (fits : Fits (length clean) rings t same) (D : List ℕ → Type 0) (w : Amid rings k m o pair before valid level D clean)
-    (symmetric : SymmetricTable rings k m o pair before valid maps group mirrored (λ b. successorEntry rings k clean b)) where
+    (fits : Fits (length clean) rings t same) (D : List ℕ → Type 0) (w : Amid rule takes rings k m o pair before valid level D clean)
+    (symmetric : SymmetricTable rule takes commutes rings k m o pair before valid maps group mirrored (λ b. successorEntry rings k clean b)) where
   three : 3 ≤ t .opponent
   three = omega (arith, side .low, side .located .opponent-is)
 
   abbrev marks-of : List ℕ
-  marks-of = levelMarks rings t same level maps picked clean
+  marks-of = levelMarks rings t same level picked clean
 
   in-own : (p : List ℕ) → InTable rings x y p → InTable rings (t .mover) (t .opponent) p
   in-own p i = record {
@@ -64,7 +65,7 @@ module _ (rings k m o : ℕ) (pair : Pair rings k m o) (before : List ℕ) (vali
 
   -- an open board of the table with a picked successor of the depth below is marked
   module _ (p : List ℕ) (i : InTable rings x y p) (blank : successorEntry rings k clean p ≡ drawEntry)
-      (q : List ℕ) (ply : List·Memᴰ q (next rings p)) (v : successorEntry rings k clean q ≡ level - 1) (chosen : picked q ≡ true) where
+      (q : List ℕ) (ply : List·Memᴰ q (successors rule rings p)) (v : successorEntry rings k clean q ≡ level - 1) (chosen : picked q ≡ true) where
     own-blank : getD clean (t .own .start + rank p) 0 ≡ drawEntry
     own-blank =
         ap (λ (j : ℕ). getD clean j 0) (own-place p i) ∙ sym (entry-place rings k clean p)
@@ -72,8 +73,8 @@ module _ (rings k m o : ℕ) (pair : Pair rings k m o) (before : List ℕ) (vali
 
     after : Values q × (length q ≡ 8 * rings) × (count 2 q ≡ count 1 p)
     after =
-        let a = successor-of (λ n c. removable n c) rings p q ply in
-        let l = ply-leads (λ n c. removable n c) removable-takes rings (pair .small) p (i .values) (i .points) (a .0) (a .1) in
+        let a = successor-of rule rings p q ply in
+        let l = ply-leads rule takes rings (pair .small) p (i .values) (i .points) (a .0) (a .1) in
         subst (λ (c : List ℕ). Values c × (length c ≡ 8 * rings) × (count 2 c ≡ count 1 p)) (sym (a .2)) (l .values, l .points ∙ i .points, l .opponent)
 
     whose : (u : ℕ) → count 1 q ≡ u → InTable rings u (t .mover) q
@@ -86,7 +87,7 @@ module _ (rings k m o : ℕ) (pair : Pair rings k m o) (before : List ℕ) (vali
         ∙ entry-rank rings k clean q ∙ sym (entry-three rings k clean q (omega arith)) ∙ v
 
     marked-place : getD marks-of (t .own .start + rank p) 0 ≡ voidEntry
-    marked-place = go (found (λ n c. removable n c) removable-takes rings (pair .small) p (i .values) (i .points) q ply)
+    marked-place = go (found rule takes rings (pair .small) p (i .values) (i .points) q ply)
       where
         removed : count 1 q ≡ t .opponent - 1 → (c : Bool) → ltb (t .opponent - 1) 3 ≡ c
             → isSource (lowerSource t) (level - 1) clean (rank q) ≡ true
@@ -103,19 +104,19 @@ module _ (rings k m o : ℕ) (pair : Pair rings k m o) (before : List ℕ) (vali
         go : Predecessor rings p q → getD marks-of (t .own .start + rank p) 0 ≡ voidEntry
         go (inl (f, e)) =
             let u : count 1 q ≡ t .opponent = e ∙ in-own p i .opponent in
-            same-found rings t same level maps picked low three clean fits p (in-own p i) own-blank q (whose (t .opponent) u) f chosen
+            same-found rings t same level picked low three clean fits p (in-own p i) own-blank q (whose (t .opponent) u) f chosen
             (source-stored (sameSource t same) (level - 1) clean (rank q) three
             (entry-of (t .opponent) same u three (side .same-is ∙ ap (λ (n : ℕ). start (8 * rings) k n x) (sym (side .located .opponent-is)))))
         go (inr (f, e)) =
             let u : count 1 q ≡ t .opponent - 1 = omega (arith, in-own p i .opponent) in
-            lower-found rings t same level maps picked low three clean fits p (in-own p i) own-blank q (whose (t .opponent - 1) u) f chosen
+            lower-found rings t same level picked low three clean fits p (in-own p i) own-blank q (whose (t .opponent - 1) u) f chosen
             (removed u (ltb (t .opponent - 1) 3) refl)
 
     is-marked : entryAt rings k marks-of p ≡ voidEntry
     is-marked = entry-place rings k marks-of p ∙ ap (λ (j : ℕ). getD marks-of j 0) (sym (own-place p i)) ∙ marked-place
 
   -- a board of the table that has the level's depth has the level's entry, or an image of it is marked
-  module _ (p : List ℕ) (i : InTable rings x y p) (d : Depth (next rings) (λ c. pairSeed rings k m o before c) level p) where
+  module _ (p : List ℕ) (i : InTable rings x y p) (d : Depth (successors rule rings) (λ c. pairSeed rings k m o before c) level p) where
     on-p : OnPair rings m o p
     on-p = on-pair (pair-table (side .both) i)
 
@@ -124,13 +125,15 @@ module _ (rings k m o : ℕ) (pair : Pair rings k m o) (before : List ℕ) (vali
     found-image =
         let e : level ≡ suc (level - 1) = omega arith in
         let (q, ply, on-q, all-images) =
-        sources-image (next rings) (λ c. pairSeed rings k m o before c) (OnPair rings m o) maps (λ g c. image rings g c)
-        (mapped rings k m o pair before valid maps group mirrored) (pair-ground rings k m o pair before valid) (level - 1)
+        sources-image (successors rule rings) (λ c. pairSeed rings k m o before c) (OnPair rings m o) maps (λ g c. image rings g c)
+        (mapped rule takes commutes rings k m o pair before valid maps group mirrored) (pair-ground rule takes rings k m o pair before valid)
+        (level - 1)
         (omega arith) (λ b. successorEntry rings k clean b) D
-        (subst (λ (n : ℕ). Within (next rings) (λ c. pairSeed rings k m o before c) (OnPair rings m o) (λ b. successorEntry rings k clean b) n D) e w)
+        (subst (λ (n : ℕ). Within (successors rule rings) (λ c. pairSeed rings k m o before c) (OnPair rings m o)
+        (λ b. successorEntry rings k clean b) n D) e w)
         symmetric
         p on-p (pair-live rings k m o pair before valid p (pair-table (side .both) i))
-        (subst (λ (n : ℕ). Depth (next rings) (λ c. pairSeed rings k m o before c) n p) e d) in
+        (subst (λ (n : ℕ). Depth (successors rule rings) (λ c. pairSeed rings k m o before c) n p) e d) in
         let (g, l, c) = picks q (on-q .points) in
         let a = all-images g l in
         go g l (image rings g q) (a .0) (a .1) c
@@ -143,13 +146,16 @@ module _ (rings k m o : ℕ) (pair : Pair rings k m o) (before : List ℕ) (vali
         own-image : (g : ℕ) → g < maps → InPair rings m o (image rings g p)
         own-image g l = pair-table (side .both) (in-image g l)
 
-        depth-image : (g : ℕ) → g < maps → Depth (next rings) (λ c. pairSeed rings k m o before c) level (image rings g p)
+        depth-image : (g : ℕ) → g < maps → Depth (successors rule rings) (λ c. pairSeed rings k m o before c) level (image rings g p)
         depth-image g l =
-            map-depth (next rings) (λ c. pairSeed rings k m o before c) (OnPair rings m o) maps (λ h c. image rings h c)
-            (mapped rings k m o pair before valid maps group mirrored) (pair-ground rings k m o pair before valid .closed) g l level p on-p d
+            map-depth (successors rule rings) (λ c. pairSeed rings k m o before c) (OnPair rings m o) maps (λ h c. image rings h c)
+            (mapped rule takes commutes rings k m o pair before valid maps group mirrored)
+            (pair-ground rule takes rings k m o pair before valid .closed) g l level p on-p d
 
-        go : (g : ℕ) → g < maps → (q : List ℕ) → List·Memᴰ q (next rings (image rings g p)) → successorEntry rings k clean q ≡ level - 1 → picked q ≡ true
-            → Fresh (next rings) (λ c. pairSeed rings k m o before c) (OnPair rings m o) level (successorEntry rings k clean (image rings g p))
+        go : (g : ℕ) → g < maps → (q : List ℕ) → List·Memᴰ q (successors rule rings (image rings g p)) → successorEntry rings k clean q ≡ level - 1
+            → picked q ≡ true
+            → Fresh (successors rule rings) (λ c. pairSeed rings k m o before c) (OnPair rings m o) level
+            (successorEntry rings k clean (image rings g p))
             (image rings g p)
             → (successorEntry rings k clean p ≡ level) ⊎ ((g : ℕ) × (g < maps) × (entryAt rings k marks-of (image rings g p) ≡ voidEntry))
         go g l q ply v c (inl blank) = inr (g, l, is-marked (image rings g p) (in-image g l) blank q ply v c)

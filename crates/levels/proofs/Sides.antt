@@ -8,11 +8,12 @@ use lib.ListN.{getD}
 use Rattle.sizes.specs.Size.{size}
 use Rattle.ranking.specs.Unrank.{unrank}
 use Rattle.layout.specs.Layout.{start}
+use Rattle.rules.specs.Ply.{Rule, successors}
+use Rattle.rules.proofs.Listed.{TakesOpponent}
 use Rattle.game.specs.Game.{drawEntry}
 use Rattle.game.specs.Judgement.{hit, decided}
 use Rattle.game.proofs.Agree.{hit-agree, decided-agree}
 use Rattle.outcomes.specs.Places.{placeOf, entryAt, successorEntry}
-use Rattle.outcomes.specs.Whole.{next}
 use Rattle.outcomes.specs.Pair.{Pair}
 use Rattle.outcomes.specs.Filled.{BothTables}
 use Rattle.outcomes.proofs.Ranked.{unrank-in, place-unrank}
@@ -53,21 +54,24 @@ module _ (rings k m o : ℕ) (pair : Pair rings k m o) (x y : ℕ) (t : Table) (
       unfolding isOpen
       open-is = ap (λ (e : ℕ). eqb e drawEntry) entry-is
 
-      -- its successors are judged by their entries
-      agree : (q : List ℕ) → List·Memᴰ q (next rings (unrank (8 * rings) x y r)) → judged rings t same now q ≡ successorEntry rings k now q
-      agree q i =
-          rw (side .same-is, side .located .lower-start-is, side .located .opponent-is)
-          (probed rings k x y (pair .small) (side .low) (unrank (8 * rings) x y r) (unrank-in rings x y r h) now q i)
+module _ (rule : Rule) (takes : TakesOpponent rule) (rings k m o : ℕ) (pair : Pair rings k m o) (x y : ℕ) (t : Table) (same : ℕ)
+    (side : Side rings k m o x y t same)
+    (r : ℕ) (h : r < size (8 * rings) x y) (now : List ℕ) where
+  -- its successors are judged by their entries
+  agree : (q : List ℕ) → List·Memᴰ q (successors rule rings (unrank (8 * rings) x y r)) → judged rings t same now q ≡ successorEntry rings k now q
+  agree q i =
+      rw (side .same-is, side .located .lower-start-is, side .located .opponent-is)
+      (probed rule takes rings k x y (pair .small) (side .low) (unrank (8 * rings) x y r) (unrank-in rings x y r h) now q i)
 
-      pub hit-is : (n : ℕ) → hit (next rings) (judged rings t same now) n (boardAt rings t same r)
-          ≡ hit (next rings) (λ b. successorEntry rings k now b) n (unrank (8 * rings) x y r)
-      hit-is n =
-          ap (hit (next rings) (judged rings t same now) n) (ranked-is r)
-          ∙ hit-agree (next rings) (judged rings t same now) (λ b. successorEntry rings k now b) (unrank (8 * rings) x y r) agree n
+  pub hit-is : (n : ℕ) → hit (successors rule rings) (judged rings t same now) n (boardAt rings t same r)
+      ≡ hit (successors rule rings) (λ b. successorEntry rings k now b) n (unrank (8 * rings) x y r)
+  hit-is n =
+      ap (hit (successors rule rings) (judged rings t same now) n) (ranked-is rings k m o pair x y t same side r)
+      ∙ hit-agree (successors rule rings) (judged rings t same now) (λ b. successorEntry rings k now b) (unrank (8 * rings) x y r) agree n
 
-      pub decided-is : openDecided rings t same now r ≡ (eqb (entryAt rings k now (unrank (8 * rings) x y r)) drawEntry
-          && decided (next rings) (λ b. successorEntry rings k now b) (unrank (8 * rings) x y r))
-      unfolding openDecided
-      decided-is = ap₂ (λ (a b : Bool). a && b) open-is
-          (ap (decided (next rings) (judged rings t same now)) (ranked-is r)
-          ∙ decided-agree (next rings) (judged rings t same now) (λ b. successorEntry rings k now b) (unrank (8 * rings) x y r) agree)
+  pub decided-is : openDecided rule rings t same now r ≡ (eqb (entryAt rings k now (unrank (8 * rings) x y r)) drawEntry
+      && decided (successors rule rings) (λ b. successorEntry rings k now b) (unrank (8 * rings) x y r))
+  unfolding openDecided
+  decided-is = ap₂ (λ (a b : Bool). a && b) (open-is rings k m o pair x y t same side r h now)
+      (ap (decided (successors rule rings) (judged rings t same now)) (ranked-is rings k m o pair x y t same side r)
+      ∙ decided-agree (successors rule rings) (judged rings t same now) (λ b. successorEntry rings k now b) (unrank (8 * rings) x y r) agree)

@@ -6,11 +6,11 @@ use mathlib.Core.Logic.{_⊎_, inl, inr}
 use Prim.Native.Nat.{ℕ, _≤_}
 use lib.Dec.{eqb}
 use borrow.Author.Tests.{eqb-true, eqb-false, eq-eqb, ne-eqb}
+use Rattle.rules.specs.Ply.{Rule, successors}
 use Rattle.game.specs.Game.{drawEntry, voidEntry}
 use Rattle.game.specs.Judgement.{hit}
 use Rattle.game.proofs.Agree.{hit-alike}
 use Rattle.outcomes.specs.Places.{successorEntry}
-use Rattle.outcomes.specs.Whole.{next}
 
 -- a mark read as open
 unfoldable pub opened : ℕ → ℕ
@@ -36,7 +36,8 @@ abbrev pub view : ℕ → ℕ → List ℕ → List ℕ → ℕ
 view rings k now b = opened (successorEntry rings k now b)
 
 -- to a level a mark says what an open entry says
-pub hit-view : (rings k level : ℕ) → level ≤ voidEntry → (now p : List ℕ)
-    → hit (next rings) (view rings k now) level p ≡ hit (next rings) (λ b. successorEntry rings k now b) level p
-hit-view rings k level low now p =
-    hit-alike level low (next rings) (view rings k now) (λ b. successorEntry rings k now b) p (λ q m. opened-alike (successorEntry rings k now q))
+pub hit-view : (rule : Rule) → (rings k level : ℕ) → level ≤ voidEntry → (now p : List ℕ)
+    → hit (successors rule rings) (view rings k now) level p ≡ hit (successors rule rings) (λ b. successorEntry rings k now b) level p
+hit-view rule rings k level low now p =
+    hit-alike level low (successors rule rings) (view rings k now) (λ b. successorEntry rings k now b) p
+    (λ q m. opened-alike (successorEntry rings k now q))

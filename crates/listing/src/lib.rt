@@ -1,4 +1,4 @@
-// The moves of a position: counted, and written as a list, captures first.
+// The moves of a position under an edition: counted, and written as a list, captures first.
 ghost use mathlib.Core.Path.{_≡_};
 ghost use mathlib.Core.List.{map};
 ghost use Prim.Native.Nat.{_+_, _*_, _≤_, _<_};
@@ -6,9 +6,8 @@ ghost use lib.ListN.{length};
 ghost use lib.Seq.{sets};
 ghost use Rattle.sets.specs.Sets.{without, members, elements};
 ghost use Rattle.board.specs.Board.{boardOf};
-ghost use Rattle.rules.specs.Ply.{legalMoves};
+ghost use Rattle.rules.specs.Ply.{removable, stoneMoves, moves};
 ghost use Rattle.rules.specs.MoveList.{captures, others, listedMoves};
-ghost use Rattle.plies.specs.Inner.Listing.{legalFrom};
 ghost use Rattle.plies.specs.Inner.Positions.{Playable, Slides};
 ghost use Rattle.listing.specs.Inner.Places.{dealt, Room};
 
@@ -35,6 +34,7 @@ fn stones_in(removals: u32) -> usize
 // How many moves one stone has to the points of a set.
 fn count_stone(
     rings: usize,
+    edition: u8,
     masks: &[u32; 72],
     position: board::Position,
     from: usize,
@@ -42,17 +42,17 @@ fn count_stone(
 ) -> Counts
     requires { ⌜ Playable rings (now masks) position ⌝ }
     requires { ⌜ Slides rings position from tos ⌝ }
-    ensures captures { λ r. ⌜ (r .captures ≡ length (captures (legalFrom rings (boardOf (8 * rings) position) from (elements 32 tos))))
-        × (r .captures ≤ 1024) ⌝ }
-    ensures others { λ r. ⌜ (r .others ≡ length (others (legalFrom rings (boardOf (8 * rings) position) from (elements 32 tos))))
-        × (r .others ≤ 1024) ⌝ }
+    ensures captures { λ r. ⌜ (r .captures
+        ≡ length (captures (stoneMoves (removable edition) rings (boardOf (8 * rings) position) from (elements 32 tos)))) × (r .captures ≤ 1024) ⌝ }
+    ensures others { λ r. ⌜ (r .others
+        ≡ length (others (stoneMoves (removable edition) rings (boardOf (8 * rings) position) from (elements 32 tos)))) × (r .others ≤ 1024) ⌝ }
 {
     let mut captures = 0;
     let mut others = 0;
     let mut left = tos;
     while left != 0 {
         let to = sets::take_lowest(left);
-        let removals = plies::removals(rings, masks, position, from, to.lowest);
+        let removals = plies::removals(rings, edition, masks, position, from, to.lowest);
         captures += stones_in(removals);
         others += sets::has(removals, NO_STONE) as usize;
         left = to.rest;
@@ -61,10 +61,17 @@ fn count_stone(
 }
 
 // How many moves a position has.
-pub fn count_moves(rings: usize, masks: &[u32; 72], position: board::Position) -> Counts
+pub fn count_moves(
+    rings: usize,
+    edition: u8,
+    masks: &[u32; 72],
+    position: board::Position,
+) -> Counts
     requires { ⌜ Playable rings (now masks) position ⌝ }
-    ensures captures { λ r. ⌜ (r .captures ≡ length (captures (legalMoves rings (boardOf (8 * rings) position)))) × (r .captures ≤ 32768) ⌝ }
-    ensures others { λ r. ⌜ (r .others ≡ length (others (legalMoves rings (boardOf (8 * rings) position)))) × (r .others ≤ 32768) ⌝ }
+    ensures captures { λ r. ⌜ (r .captures ≡ length (captures (moves (removable edition) rings (boardOf (8 * rings) position))))
+        × (r .captures ≤ 32768) ⌝ }
+    ensures others { λ r. ⌜ (r .others ≡ length (others (moves (removable edition) rings (boardOf (8 * rings) position))))
+        × (r .others ≤ 32768) ⌝ }
 {
     let mut captures = 0;
     let mut others = 0;
@@ -72,7 +79,7 @@ pub fn count_moves(rings: usize, masks: &[u32; 72], position: board::Position) -
     while left != 0 {
         let from = sets::take_lowest(left);
         let tos = plies::destinations(rings, masks, position, from.lowest);
-        let counts = count_stone(rings, masks, position, from.lowest, tos);
+        let counts = count_stone(rings, edition, masks, position, from.lowest, tos);
         captures += counts.captures;
         others += counts.others;
         left = from.rest;
@@ -105,6 +112,7 @@ struct Places {
 // Writes the moves of one stone to the points of a set, and answers the next places.
 fn list_stone(
     rings: usize,
+    edition: u8,
     masks: &[u32; 72],
     position: board::Position,
     from: usize,
@@ -114,18 +122,21 @@ fn list_stone(
 ) -> Places
     requires { ⌜ Playable rings (now masks) position ⌝ }
     requires { ⌜ Slides rings position from tos ⌝ }
-    requires { ⌜ Room (length (now list)) (at .captures) (at .others) (legalFrom rings (boardOf (8 * rings) position) from (elements 32 tos)) ⌝ }
-    ensures captures { λ r. ⌜ r .captures ≡ at .captures + length (captures (legalFrom rings (boardOf (8 * rings) position) from (elements 32 tos))) ⌝ }
-    ensures others { λ r. ⌜ r .others ≡ at .others + length (others (legalFrom rings (boardOf (8 * rings) position) from (elements 32 tos))) ⌝ }
+    requires { ⌜ Room (length (now list)) (at .captures) (at .others)
+        (stoneMoves (removable edition) rings (boardOf (8 * rings) position) from (elements 32 tos)) ⌝ }
+    ensures captures { λ r. ⌜ r .captures
+        ≡ at .captures + length (captures (stoneMoves (removable edition) rings (boardOf (8 * rings) position) from (elements 32 tos))) ⌝ }
+    ensures others { λ r. ⌜ r .others
+        ≡ at .others + length (others (stoneMoves (removable edition) rings (boardOf (8 * rings) position) from (elements 32 tos))) ⌝ }
     ensures list { λ _. ⌜ now (list .exit) ≡ dealt (now (list .entry)) (at .captures) (at .others)
-        (legalFrom rings (boardOf (8 * rings) position) from (elements 32 tos)) ⌝ }
+        (stoneMoves (removable edition) rings (boardOf (8 * rings) position) from (elements 32 tos)) ⌝ }
 {
     let mut captures = at.captures;
     let mut others = at.others;
     let mut left = tos;
     while left != 0 {
         let to = sets::take_lowest(left);
-        let removals = plies::removals(rings, masks, position, from, to.lowest);
+        let removals = plies::removals(rings, edition, masks, position, from, to.lowest);
         let stones = sets::without(removals, NO_STONE);
         let none = removals - stones;
         let slide = making::slide_number(from, to.lowest);
@@ -139,15 +150,16 @@ fn list_stone(
 // Writes the moves of a position at the start of a list that has room for them: the captures, then the others from the place where those end.
 pub fn list_moves(
     rings: usize,
+    edition: u8,
     masks: &[u32; 72],
     position: board::Position,
     others: usize,
     list: &mut [u16],
 )
     requires { ⌜ Playable rings (now masks) position ⌝ }
-    requires { ⌜ others ≡ length (captures (legalMoves rings (boardOf (8 * rings) position))) ⌝ }
-    requires { ⌜ length (listedMoves rings (boardOf (8 * rings) position)) ≤ length (now list) ⌝ }
-    ensures { λ _. ⌜ now (list .exit) ≡ sets (now (list .entry)) 0 (listedMoves rings (boardOf (8 * rings) position)) ⌝ }
+    requires { ⌜ others ≡ length (captures (moves (removable edition) rings (boardOf (8 * rings) position))) ⌝ }
+    requires { ⌜ length (listedMoves (removable edition) rings (boardOf (8 * rings) position)) ≤ length (now list) ⌝ }
+    ensures { λ _. ⌜ now (list .exit) ≡ sets (now (list .entry)) 0 (listedMoves (removable edition) rings (boardOf (8 * rings) position)) ⌝ }
 {
     let mut at = Places {
         captures: 0,
@@ -157,7 +169,7 @@ pub fn list_moves(
     while left != 0 {
         let from = sets::take_lowest(left);
         let tos = plies::destinations(rings, masks, position, from.lowest);
-        at = list_stone(rings, masks, position, from.lowest, tos, list, at);
+        at = list_stone(rings, edition, masks, position, from.lowest, tos, list, at);
         left = from.rest;
     }
 }

@@ -1,29 +1,24 @@
--- The position after a listed move is placed, and stands for its board. Assumes nothing.
+-- The position after a move that can be made is placed, and stands for its board. Assumes nothing.
 use mathlib.Core.Path.{_≡_, _∙_}
-use mathlib.Core.Bool.{true}
 use mathlib.Core.List.{List}
 use Prim.Native.Nat.{ℕ, _*_}
 use lib.ListN.{length}
-use Rattle.lists.specs.Lists.{member}
-use Rattle.lists.proofs.Tests.{member-is}
 use Rattle.board.specs.declared.Position.{Position}
 use Rattle.board.specs.Board.{positionOf, boardOf}
 use Rattle.board.proofs.Sides.{length-board, board-values}
-use Rattle.rules.specs.Ply.{removable, removedOf, legalMoves, afterPly}
-use Rattle.rules.proofs.Listed.{removable-takes}
-use Rattle.rules.proofs.Leads.{Leads, ply-leads}
+use Rattle.rules.specs.Ply.{removedOf, afterPly}
+use Rattle.rules.specs.Inner.Making.{Makeable}
+use Rattle.rules.proofs.Leads.{Leads, makeable-leads}
 use Rattle.plies.specs.Inner.Positions.{Placed}
 use Rattle.plies.proofs.BoardPositions.{board-placed, board-back}
 
-module _ (rings : ℕ) (position : Position) (placed : Placed rings position) (n : ℕ)
-    (listed : member n (legalMoves rings (boardOf (8 * rings) position)) ≡ true) where
+module _ (rings : ℕ) (position : Position) (placed : Placed rings position) (n : ℕ) (makeable : Makeable rings (boardOf (8 * rings) position) n) where
   abbrev board : List ℕ
   board = boardOf (8 * rings) position
 
   pub after-leads : Leads board (afterPly board n) (removedOf n)
   after-leads =
-      ply-leads (λ m b. removable m b) removable-takes rings (placed .small) board (board-values (8 * rings) position (placed .on))
-      (length-board (8 * rings) position) n (member-is n (legalMoves rings board) listed)
+      makeable-leads rings (placed .small) board (board-values (8 * rings) position (placed .on)) (length-board (8 * rings) position) n makeable
 
   points : length (afterPly board n) ≡ 8 * rings
   points = after-leads .points ∙ length-board (8 * rings) position

@@ -1,10 +1,10 @@
-// Move numbers: that of a slide, whether a number is a listed move, and the position after it.
+// Move numbers: that of a slide, whether a number is a listed move, and the position after a move that can be made.
 ghost use mathlib.Core.Path.{_≡_};
-ghost use mathlib.Core.Bool.{true};
 ghost use Prim.Native.Nat.{_+_, _*_, _<_};
 ghost use Rattle.lists.specs.Lists.{member};
 ghost use Rattle.board.specs.Board.{positionOf, boardOf};
-ghost use Rattle.rules.specs.Ply.{afterPly, legalMoves};
+ghost use Rattle.rules.specs.Ply.{removable, moves, afterPly};
+ghost use Rattle.rules.specs.Inner.Making.{Makeable};
 ghost use Rattle.plies.specs.Inner.Positions.{Placed, Playable};
 
 // A move number is FROM × from + TO × to + removed, where to and removed are below TO.
@@ -20,10 +20,16 @@ pub fn slide_number(from: usize, to: usize) -> usize
     FROM * from + TO * to
 }
 
-// Whether a number is one of a position's moves: its stone, its destination and its removal are each tested.
-pub fn is_move(rings: usize, masks: &[u32; 72], position: board::Position, number: usize) -> bool
+// Whether a number is one of a position's moves under an edition: its stone, its destination and its removal are each tested.
+pub fn is_move(
+    rings: usize,
+    edition: u8,
+    masks: &[u32; 72],
+    position: board::Position,
+    number: usize,
+) -> bool
     requires { ⌜ Playable rings (now masks) position ⌝ }
-    ensures { λ r. ⌜ r ≡ member number (legalMoves rings (boardOf (8 * rings) position)) ⌝ }
+    ensures { λ r. ⌜ r ≡ member number (moves (removable edition) rings (boardOf (8 * rings) position)) ⌝ }
 {
     let from = number / FROM;
     let to = number / TO % TO;
@@ -34,7 +40,7 @@ pub fn is_move(rings: usize, masks: &[u32; 72], position: board::Position, numbe
     if sets::has(mover, from) {
         if sets::has(plies::destinations(rings, masks, position, from), to) {
             return sets::has(
-                plies::removals(rings, masks, position, from, to),
+                plies::removals(rings, edition, masks, position, from, to),
                 number % TO,
             );
         }
@@ -42,10 +48,10 @@ pub fn is_move(rings: usize, masks: &[u32; 72], position: board::Position, numbe
     false
 }
 
-// The position after a listed move: the stone slides, a stone may be removed, and the sides change names.
+// The position after a move, whatever rule allows it: the stone slides, a stone may be removed, and the sides change names.
 pub fn after_ply(rings: usize, position: board::Position, number: usize) -> board::Position
     requires { ⌜ Placed rings position ⌝ }
-    requires { ⌜ member number (legalMoves rings (boardOf (8 * rings) position)) ≡ true ⌝ }
+    requires { ⌜ Makeable rings (boardOf (8 * rings) position) number ⌝ }
     ensures { λ r. ⌜ r ≡ positionOf (afterPly (boardOf (8 * rings) position) number) ⌝ }
 {
     let mover = position.mover;

@@ -32,23 +32,35 @@ pub extern "C" fn morris_unrank(
     numbers::unranked(morris::unrank(rings, mover, opponent, rank, target))
 }
 
-// Lists a board's moves, captures first, at the start of the list, and says how many.
+// Lists a board's moves under a rules edition, captures first, at the start of the list, and says how many.
 #[no_mangle]
-pub extern "C" fn morris_moves(rings: u8, board: &[u8], moves: &mut [u16], count: &mut usize) -> u8
-    ensures refusal { λ r. ⌜ r ≡ numberOf (movesCall rings (now (board .entry)) (now (moves .entry))) ⌝ }
-    ensures moves { λ _. ⌜ now (moves .exit) ≡ movesList rings (now (board .entry)) (now (moves .entry)) ⌝ }
-    ensures count { λ _. ⌜ now (count .exit) ≡ value (movesCall rings (now (board .entry)) (now (moves .entry))) 0 ⌝ }
+pub extern "C" fn morris_moves(
+    rings: u8,
+    edition: u8,
+    board: &[u8],
+    moves: &mut [u16],
+    count: &mut usize,
+) -> u8
+    ensures refusal { λ r. ⌜ r ≡ numberOf (movesCall rings edition (now (board .entry)) (now (moves .entry))) ⌝ }
+    ensures moves { λ _. ⌜ now (moves .exit) ≡ movesList rings edition (now (board .entry)) (now (moves .entry)) ⌝ }
+    ensures count { λ _. ⌜ now (count .exit) ≡ value (movesCall rings edition (now (board .entry)) (now (moves .entry))) 0 ⌝ }
 {
-    numbers::listed(morris::moves(rings, board, moves), count)
+    numbers::listed(morris::moves(rings, edition, board, moves), count)
 }
 
-// Writes the board after a listed move over the target.
+// Writes the board after a move that is listed under the edition over the target.
 #[no_mangle]
-pub extern "C" fn morris_make_move(rings: u8, board: &[u8], number: u16, target: &mut [u8]) -> u8
-    ensures refusal { λ r. ⌜ r ≡ numberOf (makeMoveCall rings (now (board .entry)) number (now (target .entry))) ⌝ }
-    ensures target { λ _. ⌜ now (target .exit) ≡ makeMoveTarget rings (now (board .entry)) number (now (target .entry)) ⌝ }
+pub extern "C" fn morris_make_move(
+    rings: u8,
+    edition: u8,
+    board: &[u8],
+    number: u16,
+    target: &mut [u8],
+) -> u8
+    ensures refusal { λ r. ⌜ r ≡ numberOf (makeMoveCall rings edition (now (board .entry)) number (now (target .entry))) ⌝ }
+    ensures target { λ _. ⌜ now (target .exit) ≡ makeMoveTarget rings edition (now (board .entry)) number (now (target .entry)) ⌝ }
 {
-    numbers::made(morris::make_move(rings, board, number, target))
+    numbers::made(morris::make_move(rings, edition, board, number, target))
 }
 
 // The rank of the representative of a board's class.
@@ -60,59 +72,72 @@ pub extern "C" fn morris_representative(rings: u8, board: &[u8], rank: &mut u64)
     numbers::represented(morris::representative(rings, board), rank)
 }
 
-// Fills the tablebase of largest count k.
+// Fills the tablebase of largest count k under an edition.
 #[no_mangle]
-pub extern "C" fn morris_fill(rings: u8, k: u8, limit: u32, tablebase: &mut [u16]) -> u8
-    ensures { λ r. ⌜ FillCall rings k limit (now (tablebase .entry)) (now (tablebase .exit)) (answered r []) ⌝ }
+pub extern "C" fn morris_fill(
+    rings: u8,
+    edition: u8,
+    k: u8,
+    limit: u32,
+    tablebase: &mut [u16],
+) -> u8
+    ensures { λ r. ⌜ FillCall rings edition k limit (now (tablebase .entry)) (now (tablebase .exit)) (answered r []) ⌝ }
 {
-    numbers::solved(morris::fill(rings, k, limit, tablebase))
+    numbers::solved(morris::fill(rings, edition, k, limit, tablebase))
 }
 
-// Fills the tables of two counts, either way round, over the entries of their lower tables.
+// Fills the tables of two counts, either way round, over the entries of their lower tables, under an edition.
 #[no_mangle]
 pub extern "C" fn morris_fill_pair(
     rings: u8,
+    edition: u8,
     mover: u8,
     opponent: u8,
     k: u8,
     limit: u32,
     tablebase: &mut [u16],
 ) -> u8
-    ensures { λ r. ⌜ FillPairCall rings mover opponent k limit (now (tablebase .entry)) (now (tablebase .exit)) (answered r []) ⌝ }
+    ensures { λ r. ⌜ FillPairCall rings edition mover opponent k limit (now (tablebase .entry)) (now (tablebase .exit)) (answered r []) ⌝ }
 {
-    numbers::solved(morris::fill_pair(rings, mover, opponent, k, limit, tablebase))
+    numbers::solved(morris::fill_pair(rings, edition, mover, opponent, k, limit, tablebase))
 }
 
-// The entry of a board in a tablebase of largest count k.
+// The entry of a board in a tablebase of largest count k, under the edition with which it was filled.
 #[no_mangle]
 pub extern "C" fn morris_lookup(
     rings: u8,
+    edition: u8,
     board: &[u8],
     k: u8,
     tablebase: &[u16],
     entry: &mut u16,
 ) -> u8
-    ensures refusal { λ r. ⌜ r ≡ numberOf (lookupCall rings (now (board .entry)) k (now (tablebase .entry))) ⌝ }
-    ensures entry { λ _. ⌜ now (entry .exit) ≡ value (lookupCall rings (now (board .entry)) k (now (tablebase .entry))) 0 ⌝ }
+    ensures refusal { λ r. ⌜ r ≡ numberOf (lookupCall rings edition (now (board .entry)) k (now (tablebase .entry))) ⌝ }
+    ensures entry { λ _. ⌜ now (entry .exit) ≡ value (lookupCall rings edition (now (board .entry)) k (now (tablebase .entry))) 0 ⌝ }
 {
-    numbers::looked(morris::lookup(rings, board, k, tablebase), entry)
+    numbers::looked(morris::lookup(rings, edition, board, k, tablebase), entry)
 }
 
-// The best move of a board, and the entry of the successor that it leads to.
+// The best move of a board under an edition, and the entry of the successor that it leads to.
 #[no_mangle]
 pub extern "C" fn morris_best_move(
     rings: u8,
+    edition: u8,
     board: &[u8],
     k: u8,
     tablebase: &[u16],
     number: &mut u16,
     entry: &mut u16,
 ) -> u8
-    ensures refusal { λ r. ⌜ r ≡ numberOf (bestMoveCall rings (now (board .entry)) k (now (tablebase .entry))) ⌝ }
-    ensures number { λ _. ⌜ now (number .exit) ≡ value (bestMoveCall rings (now (board .entry)) k (now (tablebase .entry))) 0 ⌝ }
-    ensures entry { λ _. ⌜ now (entry .exit) ≡ value (bestMoveCall rings (now (board .entry)) k (now (tablebase .entry))) 1 ⌝ }
+    ensures refusal { λ r. ⌜ r ≡ numberOf (bestMoveCall rings edition (now (board .entry)) k (now (tablebase .entry))) ⌝ }
+    ensures number { λ _. ⌜ now (number .exit) ≡ value (bestMoveCall rings edition (now (board .entry)) k (now (tablebase .entry))) 0 ⌝ }
+    ensures entry { λ _. ⌜ now (entry .exit) ≡ value (bestMoveCall rings edition (now (board .entry)) k (now (tablebase .entry))) 1 ⌝ }
 {
-    numbers::chosen(morris::best_move(rings, board, k, tablebase), number, entry)
+    numbers::chosen(
+        morris::best_move(rings, edition, board, k, tablebase),
+        number,
+        entry,
+    )
 }
 
 // Reads a frame: the rings, the points of the side to move, those of the other side.

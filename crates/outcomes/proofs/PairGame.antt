@@ -11,12 +11,11 @@ use borrow.Author.Tests.{ltb-true, ltb-false, lt-ltb, le-ltb, eqb-true, eqb-fals
 use Rattle.lists.proofs.Tests.{and-left, and-right, clash}
 use Rattle.board.specs.Board.{Values, count}
 use Rattle.layout.proofs.OneToOne.{InRange}
-use Rattle.rules.specs.Ply.{removable, afterPly, removedOf}
-use Rattle.rules.proofs.Listed.{successor-of, removable-takes}
+use Rattle.rules.specs.Ply.{Rule, afterPly, removedOf, successors}
+use Rattle.rules.proofs.Listed.{successor-of, TakesOpponent}
 use Rattle.rules.proofs.Leads.{Leads, MoverLeft, ply-leads}
 use Rattle.game.specs.Game.{live, ends, drawn, drawEntry}
 use Rattle.outcomes.specs.Places.{entryAt}
-use Rattle.outcomes.specs.Whole.{next}
 use Rattle.outcomes.specs.Pair.{Pair, inPair, given, pairSeed, LowerTables}
 use Rattle.outcomes.specs.Filled.{BothTables}
 use Rattle.outcomes.proofs.Boards.{InTables}
@@ -144,31 +143,6 @@ module _ (rings k m o : ℕ) (pair : Pair rings k m o) where
   pub stands-own : (b : List ℕ) → InPair rings m o b → InTables rings k b
   stands-own b i = stands b (on-pair i) (three-own b i)
 
-  -- plies of the pair lead to boards of the pair or of its lower tables
-  pub pair-closed : (b : List ℕ) → InPair rings m o b → (c : List ℕ) → List·Memᴰ c (next rings b) → OnPair rings m o c
-  pair-closed b i c h =
-      let a = successor-of (λ n x. removable n x) rings b c h in
-      subst (λ (x : List ℕ). OnPair rings m o x) (sym (a .2))
-      (lands (afterPly b (a .0)) (removedOf (a .0))
-      (ply-leads (λ n x. removable n x) removable-takes rings (pair .small) b (i .values) (i .points) (a .0) (a .1)))
-    where
-      side : (x y : ℕ) → y ≡ count 1 b → (x ≡ count 2 b) ⊎ (suc x ≡ count 2 b) → BothTables m o (count 1 b) (count 2 b) → Counts m o x y
-      side x y e (inl f) (inl q) = own (inr (f ∙ q .1, e ∙ q .0))
-      side x y e (inl f) (inr q) = own (inl (f ∙ q .1, e ∙ q .0))
-      side x y e (inr f) (inl q) = lower (f ∙ q .1) (e ∙ q .0)
-      side x y e (inr f) (inr q) = lower-turned (f ∙ q .1) (e ∙ q .0)
-
-      left : (x : List ℕ) (r : ℕ) → MoverLeft b x r → (count 1 x ≡ count 2 b) ⊎ (suc (count 1 x) ≡ count 2 b)
-      left x r (inl q) = inl (q .1)
-      left x r (inr q) = inr (q .1)
-
-      lands : (x : List ℕ) (r : ℕ) → Leads b x r → OnPair rings m o x
-      lands x r l = record {
-        values = l .values;
-        points = l .points ∙ i .points;
-        counts = side (count 1 x) (count 2 x) (l .opponent) (left x r (l .mover)) (i .counts);
-      }
-
   -- a live board is of the pair
   pub live-in : (tablebase b : List ℕ) → pairSeed rings k m o tablebase b ≡ live → inPair m o b ≡ true
   live-in tablebase b e = go (inPair m o b) refl (ltb (count 1 b) 3) refl
@@ -189,3 +163,29 @@ module _ (rings k m o : ℕ) (pair : Pair rings k m o) where
       go false f false g =
           absurd (not-given (entryAt rings k tablebase b) (eqb (entryAt rings k tablebase b) drawEntry) refl
           (sym e ∙ seed-given rings k m o tablebase b f (ltb-false (count 1 b) 3 g)))
+
+module _ (rule : Rule) (takes : TakesOpponent rule) (rings k m o : ℕ) (pair : Pair rings k m o) where
+  -- plies of the pair lead to boards of the pair or of its lower tables
+  pub pair-closed : (b : List ℕ) → InPair rings m o b → (c : List ℕ) → List·Memᴰ c (successors rule rings b) → OnPair rings m o c
+  pair-closed b i c h =
+      let a = successor-of rule rings b c h in
+      subst (λ (x : List ℕ). OnPair rings m o x) (sym (a .2))
+      (lands (afterPly b (a .0)) (removedOf (a .0))
+      (ply-leads rule takes rings (pair .small) b (i .values) (i .points) (a .0) (a .1)))
+    where
+      side : (x y : ℕ) → y ≡ count 1 b → (x ≡ count 2 b) ⊎ (suc x ≡ count 2 b) → BothTables m o (count 1 b) (count 2 b) → Counts m o x y
+      side x y e (inl f) (inl q) = own (inr (f ∙ q .1, e ∙ q .0))
+      side x y e (inl f) (inr q) = own (inl (f ∙ q .1, e ∙ q .0))
+      side x y e (inr f) (inl q) = lower (f ∙ q .1) (e ∙ q .0)
+      side x y e (inr f) (inr q) = lower-turned (f ∙ q .1) (e ∙ q .0)
+
+      left : (x : List ℕ) (r : ℕ) → MoverLeft b x r → (count 1 x ≡ count 2 b) ⊎ (suc (count 1 x) ≡ count 2 b)
+      left x r (inl q) = inl (q .1)
+      left x r (inr q) = inr (q .1)
+
+      lands : (x : List ℕ) (r : ℕ) → Leads b x r → OnPair rings m o x
+      lands x r l = record {
+        values = l .values;
+        points = l .points ∙ i .points;
+        counts = side (count 1 x) (count 2 x) (l .opponent) (left x r (l .mover)) (i .counts);
+      }

@@ -13,13 +13,14 @@ use borrow.Author.Tests.{ltb-true, ltb-false, eqb-true, eqb-false}
 use Rattle.board.specs.Board.{count}
 use Rattle.ranking.specs.Rank.{rank}
 use Rattle.layout.specs.Layout.{tablebaseLength}
+use Rattle.rules.specs.Ply.{Rule, successors}
+use Rattle.rules.proofs.Listed.{TakesOpponent}
 use Rattle.game.specs.Game.{Seed, live, ends, drawn, drawEntry, voidEntry}
 use Rattle.game.specs.Judgement.{hit, visit}
 use Rattle.game.proofs.Tables.{Ground, Seeded}
 use Rattle.game.proofs.Hits.{visit-hit, visit-miss, visit-closed}
 use Rattle.game.proofs.Levels.{Within, one}
 use Rattle.outcomes.specs.Places.{placeOf, entryAt, successorEntry}
-use Rattle.outcomes.specs.Whole.{next}
 use Rattle.outcomes.specs.Pair.{Pair, inPair, given, pairSeed, LowerTables, LowerValid}
 use Rattle.outcomes.specs.Filled.{BothTables, Kept}
 use Rattle.outcomes.proofs.Boards.{InTables, place-within}
@@ -50,6 +51,18 @@ given-is e (inl l) = inl (given-ends e (λ q. omega arith), l)
 given-is e (inr q) = inr (given-draw e q, q)
 
 module _ (rings k m o : ℕ) (pair : Pair rings k m o) (before : List ℕ) (lower-valid : LowerValid rings k m o before) where
+  pub pair-live : (b : List ℕ) → InPair rings m o b → pairSeed rings k m o before b ≡ live
+  pair-live b i = seed-in rings k m o before b (in-pair i)
+
+  pub live-pair : (b : List ℕ) → OnPair rings m o b → pairSeed rings k m o before b ≡ live → InPair rings m o b
+  live-pair b s e = pair-in s (live-in rings k m o pair before b e)
+
+  -- an entry of the pair, as its successors see it
+  pub pair-entry : (now b : List ℕ) → InPair rings m o b → successorEntry rings k now b ≡ entryAt rings k now b
+  pair-entry now b i = entry-three rings k now b (three-own rings k m o pair b i)
+
+module _ (rule : Rule) (takes : TakesOpponent rule) (rings k m o : ℕ) (pair : Pair rings k m o) (before : List ℕ)
+    (lower-valid : LowerValid rings k m o before) where
   -- a board of a lower table
   valid : (b : List ℕ) → OnPair rings m o b → LowerTables m o (count 1 b) (count 2 b) → Valid (entryAt rings k before b)
   valid b s t =
@@ -59,17 +72,14 @@ module _ (rings k m o : ℕ) (pair : Pair rings k m o) (before : List ℕ) (lowe
   abbrev seed : List ℕ → Seed
   seed b = pairSeed rings k m o before b
 
-  pub pair-live : (b : List ℕ) → InPair rings m o b → pairSeed rings k m o before b ≡ live
-  pair-live b i = seed-in rings k m o before b (in-pair i)
-
-  pub live-pair : (b : List ℕ) → OnPair rings m o b → pairSeed rings k m o before b ≡ live → InPair rings m o b
-  live-pair b s e = pair-in s (live-in rings k m o pair before b e)
-
-  pub pair-ground : Ground (next rings) (λ b. pairSeed rings k m o before b) (OnPair rings m o)
-  pair-ground = record { closed = λ p s e q h. pair-closed rings k m o pair p (live-pair p s e) q h; given-low = λ q s e. low q s e (reached q s) }
+  pub pair-ground : Ground (successors rule rings) (λ b. pairSeed rings k m o before b) (OnPair rings m o)
+  pair-ground = record {
+    closed = λ p s e q h. pair-closed rule takes rings k m o pair p (live-pair rings k m o pair before lower-valid p s e) q h;
+    given-low = λ q s e. low q s e (reached q s);
+  }
     where
       low : (q : List ℕ) {d : ℕ} → OnPair rings m o q → seed q ≡ ends d → PairReached rings m o q → d < voidEntry
-      low q s e (of-pair i) = live-ends (sym (pair-live q i) ∙ e)
+      low q s e (of-pair i) = live-ends (sym (pair-live rings k m o pair before lower-valid q i) ∙ e)
       low q {d} s e (two-left f l) = let z : 0 ≡ d = ends-same (sym (seed-two rings k m o before q f l) ∙ e) in omega arith
       low q {d} s e (below f t) = go (given-is (entryAt rings k before q) (valid q s t))
         where
@@ -86,11 +96,11 @@ module _ (rings k m o : ℕ) (pair : Pair rings k m o) (before : List ℕ) (lowe
     lower-entry : (q : List ℕ) → OnPair rings m o q → inPair m o q ≡ false → 3 ≤ count 1 q → successorEntry rings k now q ≡ entryAt rings k before q
     lower-entry q s f l = entry-three rings k now q l ∙ kept-lower rings k m o pair before now kept q s f l
 
-    pub pair-seeded : Seeded (next rings) (λ b. pairSeed rings k m o before b) (OnPair rings m o) (λ b. successorEntry rings k now b)
+    pub pair-seeded : Seeded (successors rule rings) (λ b. pairSeed rings k m o before b) (OnPair rings m o) (λ b. successorEntry rings k now b)
     pair-seeded = record { at-end = λ q s e. end q s e (reached q s); at-draw = λ q s e. draw q s e (reached q s) }
       where
         end : (q : List ℕ) {d : ℕ} → OnPair rings m o q → seed q ≡ ends d → PairReached rings m o q → successorEntry rings k now q ≡ d
-        end q s e (of-pair i) = live-ends (sym (pair-live q i) ∙ e)
+        end q s e (of-pair i) = live-ends (sym (pair-live rings k m o pair before lower-valid q i) ∙ e)
         end q s e (two-left f l) = entry-two rings k now q l ∙ ends-same (sym (seed-two rings k m o before q f l) ∙ e)
         end q {d} s e (below f t) = go (given-is (entryAt rings k before q) (valid q s t))
           where
@@ -103,7 +113,7 @@ module _ (rings k m o : ℕ) (pair : Pair rings k m o) (before : List ℕ) (lowe
             go (inr y) = drawn-ends (sym (y .0) ∙ x)
 
         draw : (q : List ℕ) → OnPair rings m o q → seed q ≡ drawn → PairReached rings m o q → successorEntry rings k now q ≡ drawEntry
-        draw q s e (of-pair i) = live-drawn (sym (pair-live q i) ∙ e)
+        draw q s e (of-pair i) = live-drawn (sym (pair-live rings k m o pair before lower-valid q i) ∙ e)
         draw q s e (two-left f l) = drawn-ends (sym e ∙ seed-two rings k m o before q f l)
         draw q s e (below f t) = go (given-is (entryAt rings k before q) (valid q s t))
           where
@@ -112,16 +122,12 @@ module _ (rings k m o : ℕ) (pair : Pair rings k m o) (before : List ℕ) (lowe
             go (inl y) = drawn-ends (sym e ∙ seed-given rings k m o before q f (t .0) ∙ y .0)
             go (inr y) = lower-entry q s f (t .0) ∙ y .1
 
-  -- an entry of the pair, as its successors see it
-  pub pair-entry : (now b : List ℕ) → InPair rings m o b → successorEntry rings k now b ≡ entryAt rings k now b
-  pair-entry now b i = entry-three rings k now b (three-own rings k m o pair b i)
-
   -- the entries by which boards are judged in a tablebase, and what holds of them in the middle of level n
   abbrev pub seen : List ℕ → List ℕ → ℕ
   seen now b = successorEntry rings k now b
 
   abbrev pub Amid : ℕ → (List ℕ → Type 0) → List ℕ → Type 0
-  Amid n D now = Within (next rings) (λ b. pairSeed rings k m o before b) (OnPair rings m o) (seen now) n D
+  Amid n D now = Within (successors rule rings) (λ b. pairSeed rings k m o before b) (OnPair rings m o) (seen now) n D
 
   module _ (n : ℕ) (small : n < voidEntry) (now : List ℕ) (room : length now ≡ tablebaseLength (8 * rings) k) (p : List ℕ) (i : InPair rings m o p) where
     stand : InTables rings k p
@@ -140,7 +146,7 @@ module _ (rings k m o : ℕ) (pair : Pair rings k m o) (before : List ℕ) (lowe
             entry-three rings k written q l ∙ written-elsewhere rings k now p n q stand (stands rings k m o pair q s l) ne ∙ sym (entry-three rings k now q l)
 
     here : seen written p ≡ n
-    here = pair-entry written p i ∙ written-here rings k now p n (omega (arith, place-within rings k p stand))
+    here = pair-entry rings k m o pair before lower-valid written p i ∙ written-here rings k now p n (omega (arith, place-within rings k p stand))
 
     -- boards of the pair are told apart by their places
     same : (q : List ℕ) → InPair rings m o q → (q ≡ p) ⊎ (q ≡ p → ⊥)
@@ -152,31 +158,35 @@ module _ (rings k m o : ℕ) (pair : Pair rings k m o) (before : List ℕ) (lowe
 
     module _ (D : List ℕ → Type 0) (w : Amid n D now) where
       more : (after : List ℕ) → ((q : List ℕ) → OnPair rings m o q → (q ≡ p → ⊥) → seen after q ≡ seen now q)
-          → seen after p ≡ visit (next rings) (seen now) n p → Amid n (λ b. D b ⊎ (b ≡ p)) after
+          → seen after p ≡ visit (successors rule rings) (seen now) n p → Amid n (λ b. D b ⊎ (b ≡ p)) after
       more after others at =
-          one (next rings) (λ b. pairSeed rings k m o before b) (OnPair rings m o) pair-ground n small (seen now) (seen after) D p w
-          (λ q s dead. others q s (λ e. dead (subst (λ (x : List ℕ). seed x ≡ live) (sym e) (pair-live p i))))
-          (λ q s e. each q s (same q (live-pair q s e)))
+          one (successors rule rings) (λ b. pairSeed rings k m o before b) (OnPair rings m o) pair-ground n small (seen now) (seen after) D p w
+          (λ q s dead. others q s (λ e. dead (subst (λ (x : List ℕ). seed x ≡ live) (sym e) (pair-live rings k m o pair before lower-valid p i))))
+          (λ q s e. each q s (same q (live-pair rings k m o pair before lower-valid q s e)))
         where
           each : (q : List ℕ) → OnPair rings m o q → (q ≡ p) ⊎ (q ≡ p → ⊥)
-              → ((q ≡ p → ⊥) × (seen after q ≡ seen now q)) ⊎ (seen after q ≡ visit (next rings) (seen now) n q)
-          each q s (inl e) = inr (subst (λ (x : List ℕ). seen after x ≡ visit (next rings) (seen now) n x) (sym e) at)
+              → ((q ≡ p → ⊥) × (seen after q ≡ seen now q)) ⊎ (seen after q ≡ visit (successors rule rings) (seen now) n q)
+          each q s (inl e) = inr (subst (λ (x : List ℕ). seen after x ≡ visit (successors rule rings) (seen now) n x) (sym e) at)
           each q s (inr ne) = inl (ne, others q s ne)
 
       -- a visit to a board at level n: an open place that is hit gets n
-      pub visited : (after : List ℕ) → after ≡ elim (eqb (entryAt rings k now p) drawEntry && hit (next rings) (seen now) n p) [ true ↦ written | false ↦ now ]
+      pub visited : (after : List ℕ) → after ≡ elim (eqb (entryAt rings k now p) drawEntry && hit (successors rule rings) (seen now) n p)
+          [ true ↦ written | false ↦ now ]
           → Amid n (λ b. D b ⊎ (b ≡ p)) after
-      visited after is = go (eqb (entryAt rings k now p) drawEntry) refl (hit (next rings) (seen now) n p) refl
+      visited after is = go (eqb (entryAt rings k now p) drawEntry) refl (hit (successors rule rings) (seen now) n p) refl
         where
-          go : (a : Bool) → eqb (entryAt rings k now p) drawEntry ≡ a → (c : Bool) → hit (next rings) (seen now) n p ≡ c → Amid n (λ b. D b ⊎ (b ≡ p)) after
+          go : (a : Bool) → eqb (entryAt rings k now p) drawEntry ≡ a → (c : Bool) → hit (successors rule rings) (seen now) n p ≡ c
+              → Amid n (λ b. D b ⊎ (b ≡ p)) after
           go true f true g =
               let e : after ≡ written = is ∙ rw (f, g) in
               subst (Amid n (λ b. D b ⊎ (b ≡ p))) (sym e) (more written elsewhere
-              (here ∙ sym (visit-hit (next rings) (seen now) n p (pair-entry now p i ∙ eqb-true (entryAt rings k now p) drawEntry f) g)))
+              (here ∙ sym (visit-hit (successors rule rings) (seen now) n p (pair-entry rings k m o pair before lower-valid now p i
+              ∙ eqb-true (entryAt rings k now p) drawEntry f) g)))
           go true f false g =
               let e : after ≡ now = is ∙ rw (f, g) in
-              subst (Amid n (λ b. D b ⊎ (b ≡ p))) (sym e) (more now (λ q s ne. refl) (sym (visit-miss (next rings) (seen now) n p g)))
+              subst (Amid n (λ b. D b ⊎ (b ≡ p))) (sym e) (more now (λ q s ne. refl) (sym (visit-miss (successors rule rings) (seen now) n p g)))
           go false f c g =
               let e : after ≡ now = is ∙ rw f in
               subst (Amid n (λ b. D b ⊎ (b ≡ p))) (sym e) (more now (λ q s ne. refl)
-              (sym (visit-closed (next rings) (seen now) n p (λ h. eqb-false (entryAt rings k now p) drawEntry f (sym (pair-entry now p i) ∙ h)))))
+              (sym (visit-closed (successors rule rings) (seen now) n p (λ h. eqb-false (entryAt rings k now p) drawEntry f
+              (sym (pair-entry rings k m o pair before lower-valid now p i) ∙ h)))))

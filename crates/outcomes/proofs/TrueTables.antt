@@ -13,9 +13,11 @@ use Rattle.sizes.specs.Size.{size}
 use Rattle.ranking.specs.Unrank.{unrank}
 use Rattle.layout.specs.Layout.{start, tablebaseLength}
 use Rattle.layout.proofs.OneToOne.{InRange, IsTable, place-found, place-low, table-listed, listed-table}
+use Rattle.rules.specs.Ply.{Rule, successors}
+use Rattle.rules.proofs.Listed.{TakesOpponent}
 use Rattle.game.specs.Game.{Seed, voidEntry}
 use Rattle.game.proofs.Entries.{entry-ended}
-use Rattle.outcomes.specs.Whole.{next, wholeSeed, TrueEntry}
+use Rattle.outcomes.specs.Whole.{wholeSeed, TrueEntry}
 use Rattle.outcomes.specs.Pair.{Pair, pairSeed, LowerTables}
 use Rattle.outcomes.specs.Filled.{AllTables, BothTables, Kept, Filled, TooDeep}
 use Rattle.outcomes.specs.Order.{Beyond}
@@ -25,23 +27,24 @@ use Rattle.outcomes.proofs.PairGame.{both-or-not}
 use Rattle.outcomes.proofs.Entries.{entry-unrank, kept-standing, pair-stands}
 use Rattle.outcomes.proofs.PairTrue.{LowerTrue, filled-true, deep-true}
 
-pub true-fewer : (rings k limit : ℕ) (T T′ : ℕ → ℕ → Type 0) (tablebase : List ℕ) → ((x y : ℕ) → T′ x y → T x y)
-    → TrueOn rings k limit T tablebase → TrueOn rings k limit T′ tablebase
-true-fewer rings k limit T T′ tablebase of w = record {
+pub true-fewer : (rule : Rule) → (rings k limit : ℕ) (T T′ : ℕ → ℕ → Type 0) (tablebase : List ℕ) → ((x y : ℕ) → T′ x y → T x y)
+    → TrueOn rule rings k limit T tablebase → TrueOn rule rings k limit T′ tablebase
+true-fewer rule rings k limit T T′ tablebase of w = record {
   entries = λ x y r t. w .entries x y r (of x y t);
   within = λ x y r t. w .within x y r (of x y t);
 }
 
 -- an entry states a depth below void: so what is filled is filled whatever the limit was
-pub filled-limit : (rings k limit : ℕ) (T : ℕ → ℕ → Type 0) (seed : List ℕ → Seed) (before after : List ℕ) → Filled rings k limit T seed before after
-    → Filled rings k voidEntry T seed before after
-filled-limit rings k limit T seed before after f = record {
+pub filled-limit : (rule : Rule) → (rings k limit : ℕ) (T : ℕ → ℕ → Type 0) (seed : List ℕ → Seed) (before after : List ℕ)
+    → Filled rule rings k limit T seed before after
+    → Filled rule rings k voidEntry T seed before after
+filled-limit rule rings k limit T seed before after f = record {
   kept = f .kept;
   entries = f .entries;
-  within = λ x y r t h. entry-ended (next rings) seed (unrank (8 * rings) x y r) (f .entries x y r t h);
+  within = λ x y r t h. entry-ended (successors rule rings) seed (unrank (8 * rings) x y r) (f .entries x y r t h);
 }
 
-module _ (rings k m o : ℕ) (pair : Pair rings k m o) where
+module _ (rule : Rule) (takes : TakesOpponent rule) (rings k m o : ℕ) (pair : Pair rings k m o) where
   -- a table that is not of the pair keeps its entries
   kept-entry : (before after : List ℕ) → Kept rings k (BothTables m o) before after → (x y r : ℕ) → InRange k x y → r < size (8 * rings) x y
       → (BothTables m o x y → ⊥) → getD before (start (8 * rings) k x y + r) 0 ≡ getD after (start (8 * rings) k x y + r) 0
@@ -54,33 +57,34 @@ module _ (rings k m o : ℕ) (pair : Pair rings k m o) where
       ∙ entry-unrank rings k x y r after h
 
   pub true-more : (limit : ℕ) (T : ℕ → ℕ → Type 0) (before after : List ℕ) → ((x y : ℕ) → T x y → InRange k x y)
-      → ((x y : ℕ) → LowerTables m o x y → T x y) → TrueOn rings k limit T before
-      → Filled rings k limit (BothTables m o) (λ b. pairSeed rings k m o before b) before after
-      → TrueOn rings k limit (λ x y. T x y ⊎ BothTables m o x y) after
+      → ((x y : ℕ) → LowerTables m o x y → T x y) → TrueOn rule rings k limit T before
+      → Filled rule rings k limit (BothTables m o) (λ b. pairSeed rings k m o before b) before after
+      → TrueOn rule rings k limit (λ x y. T x y ⊎ BothTables m o x y) after
   true-more limit T before after range lower w f = record {
     entries = λ x y r t h. entry x y r t h (both-or-not m o x y);
     within = bound;
   }
     where
-      g : Filled rings k limit (BothTables m o) (λ b. wholeSeed b) before after
-      g = filled-true rings k m o pair before (λ x y r t. w .entries x y r (lower x y t)) limit after f
+      g : Filled rule rings k limit (BothTables m o) (λ b. wholeSeed b) before after
+      g = filled-true rule takes rings k m o pair before (λ x y r t. w .entries x y r (lower x y t)) limit after f
 
       entry : (x y r : ℕ) → T x y ⊎ BothTables m o x y → r < size (8 * rings) x y → BothTables m o x y ⊎ (BothTables m o x y → ⊥)
-          → TrueEntry rings (unrank (8 * rings) x y r) (getD after (start (8 * rings) k x y + r) 0)
+          → TrueEntry rule rings (unrank (8 * rings) x y r) (getD after (start (8 * rings) k x y + r) 0)
       entry x y r t h (inl b) = g .entries x y r b h
       entry x y r (inr b) h (inr out) = absurd (out b)
       entry x y r (inl t) h (inr out) =
-          subst (λ (e : ℕ). TrueEntry rings (unrank (8 * rings) x y r) e) (kept-entry before after (f .kept) x y r (range x y t) h out) (w .entries x y r t h)
+          subst (λ (e : ℕ). TrueEntry rule rings (unrank (8 * rings) x y r) e) (kept-entry before after (f .kept) x y r (range x y t) h out)
+          (w .entries x y r t h)
 
-      bound : WithinLimit rings limit (λ x y. T x y ⊎ BothTables m o x y)
+      bound : WithinLimit rule rings limit (λ x y. T x y ⊎ BothTables m o x y)
       bound x y r (inl t) = w .within x y r t
       bound x y r (inr b) = g .within x y r b
 
   -- a forced end beyond the limit in the pair's game is one in the whole tablebase
-  pub deep-beyond : (limit : ℕ) (before after : List ℕ) → LowerTrue rings k m o before
-      → TooDeep rings k limit (BothTables m o) (λ b. pairSeed rings k m o before b) before after → Beyond rings k limit
+  pub deep-beyond : (limit : ℕ) (before after : List ℕ) → LowerTrue rule rings k m o before
+      → TooDeep rule rings k limit (BothTables m o) (λ b. pairSeed rings k m o before b) before after → Beyond rule rings k limit
   deep-beyond limit before after low d =
-      let e = deep-true rings k m o pair before low limit after d in
+      let e = deep-true rule takes rings k m o pair before low limit after d in
       record {
         mover = e .mover;
         opponent = e .opponent;
@@ -113,12 +117,13 @@ kept-all rings k before after n e = record { same-length = e; rest = λ j none. 
         let l = ltb-false j (tablebaseLength (8 * rings) k) f in
         List·getD-eq-default after 0 (omega arith) ∙ sym (List·getD-eq-default before 0 (omega arith))
 
-module _ (rings k limit : ℕ) (before after : List ℕ) (room : length before ≡ tablebaseLength (8 * rings) k) (same : length after ≡ length before) where
-  pub true-whole : TrueOn rings k limit (AllTables rings k) after → Filled rings k limit (AllTables rings k) (λ b. wholeSeed b) before after
+module _ (rule : Rule) (rings k limit : ℕ) (before after : List ℕ) (room : length before ≡ tablebaseLength (8 * rings) k)
+    (same : length after ≡ length before) where
+  pub true-whole : TrueOn rule rings k limit (AllTables rings k) after → Filled rule rings k limit (AllTables rings k) (λ b. wholeSeed b) before after
   true-whole w = record { kept = kept-all rings k before after room same; entries = w .entries; within = w .within }
 
-  pub deep-void : Beyond rings k limit → ((j : ℕ) → j < length after → getD after j 0 ≡ voidEntry)
-      → TooDeep rings k limit (AllTables rings k) (λ b. wholeSeed b) before after
+  pub deep-void : Beyond rule rings k limit → ((j : ℕ) → j < length after → getD after j 0 ≡ voidEntry)
+      → TooDeep rule rings k limit (AllTables rings k) (λ b. wholeSeed b) before after
   deep-void d void = record {
     kept = kept-all rings k before after room same;
     void = λ x y r t h. void (start (8 * rings) k x y + r) (low x y r t h);

@@ -16,18 +16,19 @@ use Rattle.lists.proofs.Tests.{or-left, or-right, any-same, any-none}
 use Rattle.sizes.specs.Size.{size}
 use Rattle.layout.specs.Layout.{start, end, tablebaseLength}
 use Rattle.layout.proofs.OneToOne.{InRange, end-is, end-within}
+use Rattle.rules.specs.Ply.{Rule, successors}
 use Rattle.game.specs.Game.{drawEntry, voidEntry}
 use Rattle.outcomes.specs.Places.{successorEntry, isVoid, successorVoid, tableVoid, lowerVoid}
-use Rattle.outcomes.specs.Whole.{next}
 use Rattle.outcomes.specs.Pair.{Pair, LowerTables, LowerValid}
 
-module _ (rings k : ℕ) (tablebase : List ℕ) where
+module _ (rule : Rule) (rings k : ℕ) (tablebase : List ℕ) where
   -- void among the successors, by what is read of them
-  pub read-void : (b : List ℕ) (read : List ℕ → ℕ) → ((c : List ℕ) → List·Memᴰ c (next rings b) → read c ≡ successorEntry rings k tablebase c)
-      → any (λ c. isVoid (read c)) (next rings b) ≡ successorVoid rings k tablebase b
+  pub read-void : (b : List ℕ) (read : List ℕ → ℕ) → ((c : List ℕ) → List·Memᴰ c (successors rule rings b) → read c ≡ successorEntry rings k tablebase c)
+      → any (λ c. isVoid (read c)) (successors rule rings b) ≡ successorVoid rule rings k tablebase b
   unfolding successorVoid
-  read-void b read h = any-same _ _ (next rings b) (λ c m. ap isVoid (h c m))
+  read-void b read h = any-same _ _ (successors rule rings b) (λ c m. ap isVoid (h c m))
 
+module _ (rings k : ℕ) (tablebase : List ℕ) where
   -- void in a table, by its part
   pub part-void : (x y a e : ℕ) → a ≡ start (8 * rings) k x y → e ≡ end (8 * rings) k x y
       → any (λ v. isVoid v) (take (e - a) (drop a tablebase)) ≡ tableVoid rings k tablebase x y

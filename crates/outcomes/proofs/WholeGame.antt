@@ -12,13 +12,13 @@ use Rattle.lists.proofs.Tests.{none-any}
 use Rattle.board.specs.Board.{count}
 use Rattle.ranking.specs.Rank.{rank}
 use Rattle.layout.proofs.OneToOne.{InRange, table-listed}
-use Rattle.rules.specs.Ply.{removable}
-use Rattle.rules.proofs.Listed.{removable-takes}
+use Rattle.rules.specs.Ply.{Rule, successors}
 use Rattle.rules.proofs.Leads.{Reached, successor-reached}
+use Rattle.rules.proofs.Listed.{TakesOpponent}
 use Rattle.game.specs.Game.{live, ends, voidEntry}
 use Rattle.game.proofs.Depths.{ends-depth}
 use Rattle.outcomes.specs.Places.{entryAt, successorEntry, isVoid, successorVoid}
-use Rattle.outcomes.specs.Whole.{next, wholeSeed, TrueEntry}
+use Rattle.outcomes.specs.Whole.{wholeSeed, TrueEntry}
 use Rattle.outcomes.specs.Filled.{AllTables}
 use Rattle.outcomes.specs.Order.{TrueEntries}
 use Rattle.outcomes.proofs.Boards.{InTables}
@@ -51,22 +51,24 @@ live-three b e = ⊎-elim (λ h. clash (sym (whole-two b h) ∙ e)) (λ h. h) (t
     clash z = let f : _≡_ {A = ℕ} 0 1 = cc in absurd (omega arith)
 
 -- where the plies decide, they lead to boards that a tablebase reaches
-pub whole-closed : (rings k : ℕ) → rings ≤ 3 → (b : List ℕ) → Reached rings k b → wholeSeed b ≡ live → (c : List ℕ) → List·Memᴰ c (next rings b)
+pub whole-closed : (rule : Rule) → TakesOpponent rule → (rings k : ℕ) → rings ≤ 3 → (b : List ℕ) → Reached rings k b → wholeSeed b ≡ live
+    → (c : List ℕ) → List·Memᴰ c (successors rule rings b)
     → Reached rings k c
-whole-closed rings k small b w e = successor-reached (λ n c. removable n c) removable-takes rings k small b w (live-three b e)
+whole-closed rule takes rings k small b w e = successor-reached rule takes rings k small b w (live-three b e)
 
 -- a board of a table that holds true entries
-pub table-true : (rings k : ℕ) (T : ℕ → ℕ → Type 0) (tablebase : List ℕ) → TrueEntries rings k T tablebase → (b : List ℕ) → InTables rings k b
-    → T (count 1 b) (count 2 b) → TrueEntry rings b (entryAt rings k tablebase b)
-table-true rings k T tablebase entries b s t =
+pub table-true : (rule : Rule) → (rings k : ℕ) (T : ℕ → ℕ → Type 0) (tablebase : List ℕ) → TrueEntries rule rings k T tablebase → (b : List ℕ)
+    → InTables rings k b
+    → T (count 1 b) (count 2 b) → TrueEntry rule rings b (entryAt rings k tablebase b)
+table-true rule rings k T tablebase entries b s t =
     let w = own-table rings k b s in
-    subst₂ (λ (c : List ℕ) (e : ℕ). TrueEntry rings c e) (unrank-of rings (count 1 b) (count 2 b) b w) (entry-rank rings k tablebase b)
+    subst₂ (λ (c : List ℕ) (e : ℕ). TrueEntry rule rings c e) (unrank-of rings (count 1 b) (count 2 b) b w) (entry-rank rings k tablebase b)
     (entries (count 1 b) (count 2 b) (rank b) t (rank-in rings (count 1 b) (count 2 b) b w))
 
 -- a true entry is not void
-pub not-void : (rings : ℕ) (b : List ℕ) (e : ℕ) → TrueEntry rings b e → isVoid e ≡ false
-not-void rings b e (inl a) = ne-eqb e voidEntry (λ z. omega (arith, a .0))
-not-void rings b e (inr a) = ne-eqb e voidEntry (λ z. omega (arith, a .0))
+pub not-void : (rule : Rule) → (rings : ℕ) (b : List ℕ) (e : ℕ) → TrueEntry rule rings b e → isVoid e ≡ false
+not-void rule rings b e (inl a) = ne-eqb e voidEntry (λ z. omega (arith, a .0))
+not-void rule rings b e (inr a) = ne-eqb e voidEntry (λ z. omega (arith, a .0))
 
 pub board-reached : (rings k : ℕ) (b : List ℕ) → InTables rings k b → Reached rings k b
 board-reached rings k b s = record {
@@ -90,26 +92,27 @@ reached-board rings k b w h =
     in-tables rings k b (w .values) (w .points) r
 
 -- a tablebase that holds the true entries
-module _ (rings k : ℕ) (tablebase : List ℕ) (entries : TrueEntries rings k (AllTables rings k) tablebase) where
-  pub board-true : (b : List ℕ) → InTables rings k b → TrueEntry rings b (entryAt rings k tablebase b)
+module _ (rule : Rule) (takes : TakesOpponent rule) (rings k : ℕ) (tablebase : List ℕ)
+    (entries : TrueEntries rule rings k (AllTables rings k) tablebase) where
+  pub board-true : (b : List ℕ) → InTables rings k b → TrueEntry rule rings b (entryAt rings k tablebase b)
   board-true b s =
-      table-true rings k (AllTables rings k) tablebase entries b s (table-listed (8 * rings) k (count 1 b) (count 2 b) (s .is-table))
+      table-true rule rings k (AllTables rings k) tablebase entries b s (table-listed (8 * rings) k (count 1 b) (count 2 b) (s .is-table))
 
-  pub reached-true : (b : List ℕ) → Reached rings k b → TrueEntry rings b (successorEntry rings k tablebase b)
+  pub reached-true : (b : List ℕ) → Reached rings k b → TrueEntry rule rings b (successorEntry rings k tablebase b)
   reached-true b w = ⊎-elim two three (two-or-three b)
     where
-      two : count 1 b < 3 → TrueEntry rings b (successorEntry rings k tablebase b)
+      two : count 1 b < 3 → TrueEntry rule rings b (successorEntry rings k tablebase b)
       two h =
-          subst (λ (e : ℕ). TrueEntry rings b e) (sym (entry-two rings k tablebase b h))
-          (inl (omega arith, ends-depth (next rings) (λ c. wholeSeed c) b (whole-two b h)))
+          subst (λ (e : ℕ). TrueEntry rule rings b e) (sym (entry-two rings k tablebase b h))
+          (inl (omega arith, ends-depth (successors rule rings) (λ c. wholeSeed c) b (whole-two b h)))
 
-      three : 3 ≤ count 1 b → TrueEntry rings b (successorEntry rings k tablebase b)
-      three h = subst (λ (e : ℕ). TrueEntry rings b e) (sym (entry-three rings k tablebase b h)) (board-true b (reached-board rings k b w h))
+      three : 3 ≤ count 1 b → TrueEntry rule rings b (successorEntry rings k tablebase b)
+      three h = subst (λ (e : ℕ). TrueEntry rule rings b e) (sym (entry-three rings k tablebase b h)) (board-true b (reached-board rings k b w h))
 
   -- no successor of a board of the tablebase is void
-  pub successors-told : rings ≤ 3 → (b : List ℕ) → InTables rings k b → successorVoid rings k tablebase b ≡ false
+  pub successors-told : rings ≤ 3 → (b : List ℕ) → InTables rings k b → successorVoid rule rings k tablebase b ≡ false
   unfolding successorVoid
   successors-told small b s =
-      none-any (λ c. isVoid (successorEntry rings k tablebase c)) (next rings b) (λ c m.
-      not-void rings c (successorEntry rings k tablebase c)
-      (reached-true c (whole-closed rings k small b (board-reached rings k b s) (whole-live b (s .is-table .mover-low)) c m)))
+      none-any (λ c. isVoid (successorEntry rings k tablebase c)) (successors rule rings b) (λ c m.
+      not-void rule rings c (successorEntry rings k tablebase c)
+      (reached-true c (whole-closed rule takes rings k small b (board-reached rings k b s) (whole-live b (s .is-table .mover-low)) c m)))

@@ -10,8 +10,8 @@ use Rattle.board.specs.Board.{count}
 use Rattle.sizes.specs.Size.{size}
 use Rattle.ranking.specs.Rank.{rank}
 use Rattle.layout.specs.Layout.{start}
+use Rattle.rules.specs.Ply.{Rule, successors}
 use Rattle.game.specs.Game.{voidEntry}
-use Rattle.outcomes.specs.Whole.{next}
 
 unfoldable pub placeOf : ℕ → ℕ → List ℕ → ℕ
 placeOf rings k b = start (8 * rings) k (count 1 b) (count 2 b) + rank b
@@ -27,8 +27,8 @@ abbrev pub isVoid : ℕ → Bool
 isVoid e = eqb e voidEntry
 
 -- void in any successor of a board
-unfoldable pub successorVoid : ℕ → ℕ → List ℕ → List ℕ → Bool
-successorVoid rings k tablebase b = any (λ c. isVoid (successorEntry rings k tablebase c)) (next rings b)
+unfoldable pub successorVoid : Rule → ℕ → ℕ → List ℕ → List ℕ → Bool
+successorVoid rule rings k tablebase b = any (λ c. isVoid (successorEntry rings k tablebase c)) (successors rule rings b)
 
 -- void in table (m, o)
 unfoldable pub tableVoid : ℕ → ℕ → List ℕ → ℕ → ℕ → Bool

@@ -2,6 +2,7 @@
 ghost use mathlib.Core.Path.{_≡_};
 ghost use Prim.Native.Nat.{_*_};
 ghost use lib.ListN.{length};
+ghost use Rattle.rules.specs.Ply.{removable};
 ghost use Rattle.classing.specs.Inner.Classes.{leastOfClass};
 ghost use Rattle.probing.specs.Inner.Conditions.{Lent};
 ghost use Rattle.deciding.specs.Inner.Fits.{Lies, Fits};
@@ -53,13 +54,14 @@ pub fn level_pair(
     masks: &[u32; 72],
     images: &[u8; 2048],
     maps: Maps,
+    edition: u8,
     tables: Tables,
     level: u16,
 )
     requires { ⌜ Lent (maps .rings) (now binomials) (now masks) ⌝ }
     requires { ⌜ PairSweeping (now images) (length (now tablebase)) maps tables level ⌝ }
     ensures { λ _. ⌜ now (tablebase .exit)
-        ≡ pairByClasses (maps .rings) (tables .first) (tables .second) level (maps .count) (leastOfClass (maps .rings) (maps .count))
+        ≡ pairByClasses (removable edition) (maps .rings) (tables .first) (tables .second) level (maps .count) (leastOfClass (maps .rings) (maps .count))
         (now (tablebase .entry)) ⌝ }
 {
     let first = tables.first;
@@ -73,6 +75,7 @@ pub fn level_pair(
         images,
         maps,
         Sweep {
+            edition: edition,
             table: first,
             same: two.start,
             level: level,
@@ -86,6 +89,7 @@ pub fn level_pair(
             images,
             maps,
             Sweep {
+                edition: edition,
                 table: second,
                 same: one.start,
                 level: level,
@@ -100,19 +104,36 @@ pub fn pair_decided(
     binomials: &[u32; 625],
     masks: &[u32; 72],
     rings: usize,
+    edition: u8,
     tables: Tables,
 ) -> bool
     requires { ⌜ Lent rings (now binomials) (now masks) ⌝ }
     requires { ⌜ Fits (length (now tablebase)) rings (tables .first) (tables .second .own .start)
         × Fits (length (now tablebase)) rings (tables .second) (tables .first .own .start) ⌝ }
-    ensures { λ b. ⌜ PairFound rings (tables .first) (tables .second) (now (tablebase .entry)) b ⌝ }
+    ensures { λ b. ⌜ PairFound (removable edition) rings (tables .first) (tables .second) (now (tablebase .entry)) b ⌝ }
 {
     let first = tables.first;
     let second = tables.second;
     let one = first.own;
     let two = second.own;
-    if deciding::some_decided(tablebase, binomials, masks, rings, first, two.start) {
+    if deciding::some_decided(
+        tablebase,
+        binomials,
+        masks,
+        rings,
+        edition,
+        first,
+        two.start,
+    ) {
         return true;
     }
-    deciding::some_decided(tablebase, binomials, masks, rings, second, one.start)
+    deciding::some_decided(
+        tablebase,
+        binomials,
+        masks,
+        rings,
+        edition,
+        second,
+        one.start,
+    )
 }

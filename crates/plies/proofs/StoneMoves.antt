@@ -1,4 +1,5 @@
--- The moves of a position, stone by stone and point by point over sets: what a loop over the moves goes by. Assumes nothing.
+-- The moves of a position, stone by stone and point by point over sets, for any rule of removal that names opposing stones by rising number: what a
+-- loop over the moves goes by. Assumes nothing.
 use mathlib.Core.Path.{_≡_, ap, _∙_}
 use mathlib.Core.List.{List}
 use Prim.Native.Nat.{ℕ, _*_, _^_, _≤_, _<_}
@@ -13,22 +14,18 @@ use Rattle.board.specs.declared.Position.{Position}
 use Rattle.board.specs.Board.{boardOf}
 use Rattle.board.proofs.Sides.{length-board}
 use Rattle.board.proofs.OneToOne.{mover-set, vacant-bits}
-use Rattle.rules.specs.Ply.{destinations, removable, removals, stoneMoves, moves}
+use Rattle.rules.specs.Ply.{Rule, holding, destinations, removals, stoneMoves, moves}
 use Rattle.plies.specs.Inner.Positions.{Placed, Slides}
-use Rattle.rules.proofs.Listed.{removable-takes, destination-vacant, moves-are}
-use Rattle.rules.proofs.Rises.{removable-rising, removals-rising, removal-low, destinations-rising}
+use Rattle.rules.proofs.Listed.{TakesOpponent, destination-vacant, moves-are}
+use Rattle.rules.proofs.Rises.{RisingRule, removals-rising, removal-low, destinations-rising}
 use Rattle.rules.proofs.OnSets.{holding-set}
 
--- document 01's rule
-abbrev rule : ℕ → List ℕ → List ℕ
-rule rings b = removable rings b
-
-module _ (rings : ℕ) (small : rings ≤ 3) where
+module _ (rule : Rule) (takes : TakesOpponent rule) (rises : RisingRule rule) (rings : ℕ) (small : rings ≤ 3) where
   -- what a slide may remove, from its set
   pub elements-removals : (c : List ℕ) (to : ℕ) → elements 32 (setFrom (removals rule rings c to)) ≡ removals rule rings c to
   elements-removals c to =
-      elements-from 32 (removals rule rings c to) (removals-rising rule removable-takes removable-rising rings small c to)
-      (λ r m. removal-low rule removable-takes removable-rising rings small c to r m)
+      elements-from 32 (removals rule rings c to) (removals-rising rule takes rises rings small c to)
+      (λ r m. removal-low rule takes rises rings small c to r m)
 
 module _ (rings : ℕ) (small : rings ≤ 3) (b : List ℕ) where
   -- the points that a stone may go to, from their set
@@ -50,19 +47,25 @@ module _ (rings : ℕ) (position : Position) (placed : Placed rings position) wh
       let z = vacant-bits (8 * rings) position (placed .on) to (m .0) (m .1) in
       record { own = own; low = m .0; free = z .0; none = z .1 }
 
-  -- the moves of the stone at a point
-  abbrev pub fromStone : ℕ → List ℕ
-  fromStone from = stoneMoves rule rings board from (destinations rings board from)
-
-  -- the moves of a position, over the mover's set
-  pub moves-given : moves rule rings board ≡ given fromStone (position .mover)
-  moves-given =
-      moves-are rule rings board ∙ ap (each fromStone) (holding-set rings (placed .small) board (length-board (8 * rings) position) 1
-      ∙ ap (elements 32) (mover-set (8 * rings) position (placed .on)))
-
-  pub stone-given : (from tos : ℕ) → tos ≡ setFrom (destinations rings board from) → stoneMoves rule rings board from (elements 32 tos) ≡ fromStone from
-  stone-given from tos e =
-      ap (stoneMoves rule rings board from) (ap (elements 32) e ∙ elements-destinations rings (placed .small) board from)
+  -- the mover's stones, from their set
+  pub stones-given : holding rings board 1 ≡ elements 32 (position .mover)
+  stones-given =
+      holding-set rings (placed .small) board (length-board (8 * rings) position) 1 ∙ ap (elements 32) (mover-set (8 * rings) position (placed .on))
 
   pub mover-fits : position .mover < 2 ^ 32
   mover-fits = lt-of-lt-of-le (placed .on .mover-within) (pow-mono {i = 8 * rings} {j = 32} (omega (arith, placed .small)))
+
+module _ (rule : Rule) (rings : ℕ) (position : Position) (placed : Placed rings position) where
+  -- the moves of the stone at a point
+  abbrev pub fromStone : ℕ → List ℕ
+  fromStone from = stoneMoves rule rings (boardOf (8 * rings) position) from (destinations rings (boardOf (8 * rings) position) from)
+
+  -- the moves of a position, over the mover's set
+  pub moves-given : moves rule rings (boardOf (8 * rings) position) ≡ given fromStone (position .mover)
+  moves-given = moves-are rule rings (boardOf (8 * rings) position) ∙ ap (each fromStone) (stones-given rings position placed)
+
+  pub stone-given : (from tos : ℕ) → tos ≡ setFrom (destinations rings (boardOf (8 * rings) position) from)
+      → stoneMoves rule rings (boardOf (8 * rings) position) from (elements 32 tos) ≡ fromStone from
+  stone-given from tos e =
+      ap (stoneMoves rule rings (boardOf (8 * rings) position) from)
+      (ap (elements 32) e ∙ elements-destinations rings (placed .small) (boardOf (8 * rings) position) from)

@@ -50,22 +50,27 @@ fn unshielded(rings: usize, masks: &[u32; 72], side: u32) -> u32
     s
 }
 
-// The opposing stones that a closed mill may remove: those outside any mill, or all if all stand in mills.
-fn removable(rings: usize, masks: &[u32; 72], position: board::Position) -> u32
+// The opposing stones that a closed mill may remove: those outside any mill; if all stand in mills, all, and under edition 2 none. The edition is
+// asked for only there.
+fn removable(rings: usize, edition: u8, masks: &[u32; 72], position: board::Position) -> u32
     requires { ⌜ Playable rings (now masks) position ⌝ }
-    ensures { λ r. ⌜ r ≡ setFrom (removable rings (boardOf (8 * rings) position)) ⌝ }
+    ensures { λ r. ⌜ r ≡ setFrom (removable edition rings (boardOf (8 * rings) position)) ⌝ }
 {
     let opponent = position.opponent;
     let free = unshielded(rings, masks, opponent);
     if free == 0 {
+        if edition == 2 {
+            return 0;
+        }
         return opponent;
     }
     free
 }
 
-// What a slide from one point to another may remove, 31 for nothing.
+// What a slide from one point to another may remove under an edition, 31 for nothing.
 pub fn removals(
     rings: usize,
+    edition: u8,
     masks: &[u32; 72],
     position: board::Position,
     from: usize,
@@ -73,12 +78,12 @@ pub fn removals(
 ) -> u32
     requires { ⌜ Playable rings (now masks) position ⌝ }
     requires { ⌜ Slide rings position from to ⌝ }
-    ensures { λ r. ⌜ r ≡ setFrom (removals (λ n b. removable n b) rings (slide (boardOf (8 * rings) position) from to) to) ⌝ }
+    ensures { λ r. ⌜ r ≡ setFrom (removals (removable edition) rings (slide (boardOf (8 * rings) position) from to) to) ⌝ }
 {
     let mover = position.mover;
     let moved = sets::with(sets::without(mover, from), to);
     if in_mill(rings, masks, moved, to) {
-        let taken = removable(rings, masks, position);
+        let taken = removable(rings, edition, masks, position);
         if taken != 0 {
             return taken;
         }

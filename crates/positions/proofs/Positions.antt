@@ -1,20 +1,17 @@
--- A position that was made of an accepted board: it is placed, and gives that board back with its stones, its rank and its moves. And the board
--- after a listed move is that of the position after it. Assumes nothing.
+-- A position that was made of an accepted board: it is placed, and gives that board back with its stones, its rank and its moves under any rule of
+-- removal. And the board after a move that can be made is that of the position after it. Assumes nothing.
 use mathlib.Core.Path.{_≡_, sym, ap, subst, _∙_}
-use mathlib.Core.Bool.{true}
 use mathlib.Core.List.{List}
 use Prim.Native.Nat.{ℕ, _*_}
 use lib.ListN.{length}
-use Rattle.lists.specs.Lists.{member}
-use Rattle.lists.proofs.Tests.{member-is}
 use Rattle.sets.specs.Sets.{members}
 use Rattle.board.specs.declared.Position.{Position}
 use Rattle.board.specs.Board.{count, positionOf, boardOf, OnBoard}
 use Rattle.board.proofs.Sides.{board-position, mover-stones, opponent-stones, on-board}
 use Rattle.ranking.specs.Rank.{rank}
-use Rattle.rules.specs.Ply.{removable, legalMoves, afterPly}
-use Rattle.rules.proofs.Listed.{removable-takes}
-use Rattle.rules.proofs.Leads.{ply-leads}
+use Rattle.rules.specs.Ply.{Rule, moves, afterPly}
+use Rattle.rules.specs.Inner.Making.{Makeable}
+use Rattle.rules.proofs.Leads.{makeable-leads}
 use Rattle.plies.specs.Inner.Positions.{Placed}
 use Rattle.plies.proofs.BoardPositions.{board-placed, board-back}
 use Rattle.refusals.proofs.Conditions.{Accepted, few-points}
@@ -27,7 +24,7 @@ pub record ShowsBoard (rings : ℕ) (b : List ℕ) (p : Position) : Type 0 where
   pub mover : members (p .mover) 32 ≡ count 1 b
   pub opponent : members (p .opponent) 32 ≡ count 2 b
   pub rank-back : rank (boardOf (length b) p) ≡ rank b
-  pub moves-back : legalMoves rings (boardOf (8 * rings) p) ≡ legalMoves rings b
+  pub moves-back : (rule : Rule) → moves rule rings (boardOf (8 * rings) p) ≡ moves rule rings b
 
 module _ (rings : ℕ) (b : List ℕ) (w : Accepted rings b) where
   pub position-back : boardOf (8 * rings) (positionOf b) ≡ b
@@ -44,11 +41,11 @@ module _ (rings : ℕ) (b : List ℕ) (w : Accepted rings b) where
         mover = mover-stones b p e (few-points rings b w);
         opponent = opponent-stones b p e (few-points rings b w);
         rank-back = ap (λ (q : Position). rank (boardOf (length b) q)) e ∙ ap rank (board-position b (w .values));
-        moves-back = ap (legalMoves rings) f;
+        moves-back = λ rule. ap (moves rule rings) f;
       }
 
-  -- the board after a listed move
-  pub after-back : (move : ℕ) → member move (legalMoves rings b) ≡ true → boardOf (8 * rings) (positionOf (afterPly b move)) ≡ afterPly b move
-  after-back move e =
-      let l = ply-leads (λ n c. removable n c) removable-takes rings (w .rings-high) b (w .values) (w .points) move (member-is move (legalMoves rings b) e) in
+  -- the board after a move
+  pub after-back : (move : ℕ) → Makeable rings b move → boardOf (8 * rings) (positionOf (afterPly b move)) ≡ afterPly b move
+  after-back move m =
+      let l = makeable-leads rings (w .rings-high) b (w .values) (w .points) move m in
       board-back rings (w .rings-high) (afterPly b move) (l .values) (l .points ∙ w .points)

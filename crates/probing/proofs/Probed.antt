@@ -1,4 +1,5 @@
--- What is read of a successor is its entry in the tablebase: the tables are where the layout puts them, and lie within it. Assumes nothing.
+-- What is read of a successor, by any rule of removal that names opposing stones, is its entry in the tablebase: the tables are where the layout puts
+-- them, and lie within it. Assumes nothing.
 use mathlib.Core.Path.{_≡_, refl, sym, ap, subst, _∙_}
 use mathlib.Core.Bool.{Bool, true, false}
 use mathlib.Core.List.{List, List·Memᴰ}
@@ -13,11 +14,10 @@ use Rattle.sizes.specs.Size.{size}
 use Rattle.ranking.specs.Rank.{rank}
 use Rattle.layout.specs.Layout.{start, tablebaseLength}
 use Rattle.layout.proofs.OneToOne.{InRange, end-is, end-within}
-use Rattle.rules.specs.Ply.{removable, afterPly, removedOf}
-use Rattle.rules.proofs.Listed.{successor-of, removable-takes}
+use Rattle.rules.specs.Ply.{Rule, afterPly, removedOf, successors}
+use Rattle.rules.proofs.Listed.{TakesOpponent, successor-of}
 use Rattle.rules.proofs.Leads.{Leads, MoverLeft, ply-leads}
 use Rattle.outcomes.specs.Places.{successorEntry}
-use Rattle.outcomes.specs.Whole.{next}
 use Rattle.outcomes.proofs.Ranked.{InTable, place-at}
 use Rattle.outcomes.proofs.Entries.{entry-place, entry-two, entry-three}
 use Rattle.tables.specs.Inner.Tables.{lowerStart}
@@ -39,7 +39,8 @@ module _ (points k m o : ℕ) where
           omega (arith, end-is points k x y, end-within points k record { mover-low = a; mover-high = b; opponent-low = c; opponent-high = d })
 
 -- the successors of a board of table (x, y)
-module _ (rings k x y : ℕ) (small : rings ≤ 3) (low : 3 ≤ y) (p : List ℕ) (w : InTable rings x y p) (now : List ℕ) where
+module _ (rule : Rule) (takes : TakesOpponent rule) (rings k x y : ℕ) (small : rings ≤ 3) (low : 3 ≤ y) (p : List ℕ) (w : InTable rings x y p)
+    (now : List ℕ) where
   abbrev same : ℕ
   same = start (8 * rings) k y x
 
@@ -70,8 +71,8 @@ module _ (rings k x y : ℕ) (small : rings ≤ 3) (low : 3 ≤ y) (p : List ℕ
       go (inl z) = let e = z .1 ∙ w .opponent in probe-same now same fewer y q e ∙ at y x q (whose y e) (omega arith)
       go (inr z) = removed (z .1 ∙ w .opponent) (ltb (count 1 q) 3) refl
 
-  pub probed : (q : List ℕ) → List·Memᴰ q (next rings p) → probe now same fewer y q ≡ successorEntry rings k now q
+  pub probed : (q : List ℕ) → List·Memᴰ q (successors rule rings p) → probe now same fewer y q ≡ successorEntry rings k now q
   probed q h =
-      let a = successor-of (λ n c. removable n c) rings p q h in
+      let a = successor-of rule rings p q h in
       subst (λ (c : List ℕ). probe now same fewer y c ≡ successorEntry rings k now c) (sym (a .2))
-      (lands (afterPly p (a .0)) (removedOf (a .0)) (ply-leads (λ n c. removable n c) removable-takes rings small p (w .values) (w .points) (a .0) (a .1)))
+      (lands (afterPly p (a .0)) (removedOf (a .0)) (ply-leads rule takes rings small p (w .values) (w .points) (a .0) (a .1)))

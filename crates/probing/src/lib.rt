@@ -1,14 +1,13 @@
 // Entries read from a tablebase, of a position and of the one that a ply leads to, where each table is given by its start.
 ghost use mathlib.Core.Path.{_≡_};
-ghost use mathlib.Core.Bool.{true};
 ghost use Prim.Native.Nat.{_+_, _*_, _≤_};
 ghost use lib.ListN.{length, getD};
-ghost use Rattle.lists.specs.Lists.{member};
 ghost use Rattle.board.specs.Board.{count, boardOf};
 ghost use Rattle.sizes.specs.Size.{size};
 ghost use Rattle.sizes.specs.Inner.Binomial.{BinomialTable};
 ghost use Rattle.ranking.specs.Rank.{rank};
-ghost use Rattle.rules.specs.Ply.{afterPly, legalMoves};
+ghost use Rattle.rules.specs.Ply.{afterPly};
+ghost use Rattle.rules.specs.Inner.Making.{Makeable};
 ghost use Rattle.plies.specs.Inner.Positions.{Placed};
 ghost use Rattle.probing.specs.Inner.Probes.{probe};
 ghost use Rattle.probing.specs.Inner.Conditions.{Probing, AfterPly};
@@ -52,7 +51,7 @@ pub fn entry_after(
     entry_in(tablebase, binomials, rings, starts.fewer, position)
 }
 
-// The entry of the position that a listed move leads to.
+// The entry of the position that a move leads to, whatever rule allows it.
 pub fn entry_after_move(
     tablebase: &[u16],
     binomials: &[u32; 625],
@@ -62,7 +61,7 @@ pub fn entry_after_move(
     number: usize,
 ) -> u16
     requires { ⌜ Probing (now binomials) (length (now tablebase)) rings starts position ⌝ }
-    requires { ⌜ member number (legalMoves rings (boardOf (8 * rings) position)) ≡ true ⌝ }
+    requires { ⌜ Makeable rings (boardOf (8 * rings) position) number ⌝ }
     ensures { λ r. ⌜ r ≡ probe (now (tablebase .entry)) (starts .same) (starts .fewer) (count 2 (boardOf (8 * rings) position)) (afterPly (boardOf
         (8 * rings) position) number) ⌝ }
 {

@@ -11,9 +11,11 @@ use borrow.Author.Tests.{ltb-false, le-ltb, leb-false, le-leb, lt-leb, eqb-true,
 use Rattle.lists.proofs.Tests.{or-left, or-right}
 use Rattle.board.specs.Board.{Values, count}
 use Rattle.sizes.specs.Size.{size}
-use Rattle.refusals.specs.Refusals.{refusalTable, pickedRows, refusal}
-use Rattle.refusals.specs.Conditions.{boardPicks, stonesPicks, countsPicks, rankPicks, shortPicks, targetPicks, movePicks, ringsWrong, lengthWrong, valueWrong, countsWrong, rankWrong, targetShort, moveWrong}
-use Rattle.refusals.proofs.FirstRefusal.{meets, passes, passed, first-kept, one-more}
+use Rattle.refusals.specs.Refusals.{Picked, refusalTable, pickedRows, refusal}
+use Rattle.refusals.specs.Conditions.{ringsWrong, editionWrong, lengthWrong, valueWrong, countsWrong, rankWrong, targetShort, moveWrong}
+use Rattle.refusals.specs.Conditions.{boardPicks, editionPicks, ruledPicks, stonesPicks, countsPicks, rankPicks, shortPicks, listPicks, targetPicks, movePicks}
+use Rattle.refusals.proofs.FirstRefusal.{meets, passes, passed, first-kept, both-passed, one-more}
+use Rattle.refusals.proofs.EditionConditions.{RingsFirst, edition-free, edition-passed}
 
 pub rings-right : (rings : ℕ) → ringsWrong rings ≡ false → (1 ≤ rings) × (rings ≤ 3)
 rings-right rings e =
@@ -115,10 +117,24 @@ board-passes rings b w =
       ),
     )
 
--- counts come after rings, and a target after the counts
+-- and so under an edition
+pub rings-first : (rings : ℕ) (b : List ℕ) → RingsFirst rings (boardPicks rings b)
+rings-first rings b = record { no-frame = refl; rings-picked = refl; no-edition = refl }
+
+pub ruled-board : (rings edition : ℕ) (b : List ℕ) → refusal (ruledPicks rings edition b) ≡ 0 → Accepted rings b
+ruled-board rings edition b e = accepted-board rings b (edition-passed rings edition (boardPicks rings b) (rings-first rings b) e .1)
+
+pub ruled-passes : (rings edition : ℕ) (b : List ℕ) → editionWrong edition ≡ false → Accepted rings b → 0 ≡ refusal (ruledPicks rings edition b)
+ruled-passes rings edition b d w = board-passes rings b w ∙ sym (edition-free rings edition (boardPicks rings b) (rings-first rings b) d)
+
+-- rings are first with an edition and with counts
+pub edition-rings : (rings edition : ℕ) → 0 ≡ refusal (editionPicks rings edition) → rings ≤ 3
+edition-rings rings edition e = rings-right rings (passed (pickedRows refusalTable (editionPicks rings edition)) refl (sym e) .0) .1
+
 pub stones-rings : (rings m o : ℕ) → 0 ≡ refusal (stonesPicks rings m o) → rings ≤ 3
 stones-rings rings m o e = rings-right rings (passed (pickedRows refusalTable (stonesPicks rings m o)) refl (sym e) .0) .1
 
+-- a target comes after the counts
 module _ (rings m o room : ℕ) where
   pub stones-refused : (n : ℕ) → (n ≡ 0 → ⊥) → n ≡ refusal (stonesPicks rings m o) → n ≡ refusal (countsPicks rings m o room)
   stones-refused n z e = first-kept (pickedRows refusalTable (stonesPicks rings m o)) (record { holds = lengthWrong rings room; number = 6 } ∷ []) n z e
@@ -174,7 +190,7 @@ module _ (rings m o r room : ℕ) (e : 0 ≡ refusal (countsPicks rings m o room
       let p = passed (pickedRows refusalTable (countsPicks rings m o room)) refl (sym e) in
       passes (pickedRows refusalTable (rankPicks rings m o r room)) (p .0, (p .1 .0, (p .1 .1 .0, (lt-leb (size (8 * rings) m o) r h, tt))))
 
--- a target that is to hold so many places comes after the board
+-- a frame target comes after the board
 module _ (rings : ℕ) (b : List ℕ) (room needed : ℕ) where
   pub short-refused : (n : ℕ) → (n ≡ 0 → ⊥) → n ≡ refusal (boardPicks rings b) → n ≡ refusal (shortPicks rings b room needed)
   short-refused n z e = first-kept (pickedRows refusalTable (boardPicks rings b)) (record { holds = targetShort room needed; number = 7 } ∷ []) n z e
@@ -182,27 +198,40 @@ module _ (rings : ℕ) (b : List ℕ) (room needed : ℕ) where
   pub short-decides : 0 ≡ refusal (boardPicks rings b) → refusal (shortPicks rings b room needed) ≡ cond (targetShort room needed) 7 0
   short-decides e = one-more (pickedRows refusalTable (boardPicks rings b)) (targetShort room needed) 7 refl e
 
--- so does a target board
-module _ (rings : ℕ) (b : List ℕ) (room : ℕ) where
-  pub target-refused : (n : ℕ) → (n ≡ 0 → ⊥) → n ≡ refusal (boardPicks rings b) → n ≡ refusal (targetPicks rings b room)
-  target-refused n z e = first-kept (pickedRows refusalTable (boardPicks rings b)) (record { holds = lengthWrong rings room; number = 6 } ∷ []) n z e
+-- so does a move list, under an edition
+module _ (rings edition : ℕ) (b : List ℕ) where
+  abbrev rows : List Picked
+  rows = pickedRows refusalTable (ruledPicks rings edition b)
 
-  pub target-decides : 0 ≡ refusal (boardPicks rings b) → refusal (targetPicks rings b room) ≡ cond (lengthWrong rings room) 6 0
-  target-decides e = one-more (pickedRows refusalTable (boardPicks rings b)) (lengthWrong rings room) 6 refl e
+  module _ (room needed : ℕ) where
+    pub list-refused : (n : ℕ) → (n ≡ 0 → ⊥) → n ≡ refusal (ruledPicks rings edition b) → n ≡ refusal (listPicks rings edition b room needed)
+    list-refused n z e = first-kept rows (record { holds = targetShort room needed; number = 7 } ∷ []) n z e
 
-  -- and a move after that
-  pub move-refused : (move n : ℕ) → (n ≡ 0 → ⊥) → n ≡ refusal (targetPicks rings b room) → n ≡ refusal (movePicks rings b move room)
-  move-refused move n z e = first-kept (pickedRows refusalTable (targetPicks rings b room)) (record { holds = moveWrong rings b move; number = 8 } ∷ []) n z e
+    pub list-decides : 0 ≡ refusal (ruledPicks rings edition b) → refusal (listPicks rings edition b room needed) ≡ cond (targetShort room needed) 7 0
+    list-decides e = one-more rows (targetShort room needed) 7 refl e
 
-  pub move-decides : (move : ℕ) → 0 ≡ refusal (targetPicks rings b room) → refusal (movePicks rings b move room) ≡ cond (moveWrong rings b move) 8 0
-  move-decides move e = one-more (pickedRows refusalTable (targetPicks rings b room)) (moveWrong rings b move) 8 refl e
+  -- and a target board
+  module _ (room : ℕ) where
+    pub target-refused : (n : ℕ) → (n ≡ 0 → ⊥) → n ≡ refusal (ruledPicks rings edition b) → n ≡ refusal (targetPicks rings edition b room)
+    target-refused n z e = first-kept rows (record { holds = lengthWrong rings room; number = 6 } ∷ []) n z e
 
-  pub accepted-target : refusal (targetPicks rings b room) ≡ 0 → Accepted rings b × (room ≡ 8 * rings)
-  accepted-target e =
-      let p = passed (pickedRows refusalTable (targetPicks rings b room)) refl e in (
-        accepted-board rings b (sym (passes (pickedRows refusalTable (boardPicks rings b)) (p .0, (p .1 .0, (p .1 .1 .0, (p .1 .1 .1 .0, tt)))))),
-        length-right rings room (p .1 .1 .1 .1 .0),
-      )
+    pub target-decides : 0 ≡ refusal (ruledPicks rings edition b) → refusal (targetPicks rings edition b room) ≡ cond (lengthWrong rings room) 6 0
+    target-decides e = one-more rows (lengthWrong rings room) 6 refl e
+
+    -- and a move after that
+    pub move-refused : (move n : ℕ) → (n ≡ 0 → ⊥) → n ≡ refusal (targetPicks rings edition b room) → n ≡ refusal (movePicks rings edition b move room)
+    move-refused move n z e =
+        first-kept (pickedRows refusalTable (targetPicks rings edition b room)) (record { holds = moveWrong rings edition b move; number = 8 } ∷ []) n z e
+
+    pub move-decides : (move : ℕ) → 0 ≡ refusal (targetPicks rings edition b room)
+        → refusal (movePicks rings edition b move room) ≡ cond (moveWrong rings edition b move) 8 0
+    move-decides move e = one-more (pickedRows refusalTable (targetPicks rings edition b room)) (moveWrong rings edition b move) 8 refl e
+
+    pub accepted-target : refusal (targetPicks rings edition b room) ≡ 0 → Accepted rings b × (room ≡ 8 * rings)
+    accepted-target e =
+        let last : List Picked = record { holds = lengthWrong rings room; number = 6 } ∷ [] in
+        let p = both-passed rows last refl e in
+        (ruled-board rings edition b (p .0), length-right rings room (passed last refl (p .1) .0))
 
 -- an accepted board has 24 points at the most
 pub few-points : (rings : ℕ) (b : List ℕ) → Accepted rings b → length b ≤ 24

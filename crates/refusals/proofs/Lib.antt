@@ -1,4 +1,5 @@
 pub mod FirstRefusal
+pub mod EditionConditions
 pub mod Conditions
 pub mod FrameConditions
 pub mod TablebaseConditions

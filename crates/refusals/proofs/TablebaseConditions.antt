@@ -2,7 +2,7 @@
 -- of each call, which decide where the places before them are passed. Assumes nothing.
 use mathlib.Core.Path.{_≡_, refl, sym, ap, _∙_}
 use mathlib.Core.Bool.{Bool, false, cond, not, _||_}
-use mathlib.Core.List.{List, [], _∷_}
+use mathlib.Core.List.{List, [], _∷_, _++_}
 use Prim.Native.Nat.{ℕ, _*_, _≤_}
 use native.Mathlib.Omega.{arith}
 use lib.Dec.{eqb, ltb}
@@ -12,13 +12,16 @@ use Rattle.lists.proofs.Tests.{or-left, or-right}
 use Rattle.board.specs.Board.{count}
 use Rattle.layout.specs.Layout.{tablebaseLength}
 use Rattle.layout.proofs.OneToOne.{IsTable}
+use Rattle.rules.specs.Ply.{removable}
 use Rattle.outcomes.specs.Places.{entryAt, isVoid, successorVoid, lowerVoid}
 use Rattle.outcomes.proofs.Boards.{InTables}
-use Rattle.refusals.specs.Refusals.{Picked, refusalTable, pickedRows, refusal}
-use Rattle.refusals.specs.Conditions.{countAbove, largestWrong, tablebaseWrong, largestLimit, limitWrong, moverBlocked}
-use Rattle.refusals.specs.Conditions.{boardPicks, stonesPicks, largestPicks, tablebasePicks, lookupPicks, bestMovePicks, limitPicks, fillPicks, tablesPicks, pairPicks}
+use Rattle.refusals.specs.Refusals.{Pick, Picked, refusalTable, pickedRows, refusal}
+use Rattle.refusals.specs.Conditions.{editionWrong, countAbove, largestWrong, tablebaseWrong, largestLimit, limitWrong, moverBlocked}
+use Rattle.refusals.specs.Conditions.{editionPicks, ruledPicks, stonesPicks, largestPicks, tablebasePicks, lookupPicks, bestMovePicks}
+use Rattle.refusals.specs.Conditions.{limitPicks, fillPicks, tablesPicks, pairPicks}
 use Rattle.refusals.proofs.FirstRefusal.{passes, passed, first-kept, first-after, both-passed, first-cons, one-more}
-use Rattle.refusals.proofs.Conditions.{RightCounts, Accepted, rings-right, counts-right, accepted-board, board-passes}
+use Rattle.refusals.proofs.EditionConditions.{RingsFirst, edition-refused, edition-decides}
+use Rattle.refusals.proofs.Conditions.{RightCounts, Accepted, rings-right, counts-right, ruled-board, ruled-passes}
 
 -- what a right K is, and that no count is above it
 pub record Largest (k : ℕ) (above : Bool) : Type 0 where
@@ -69,18 +72,18 @@ pub record AcceptedEntry (rings : ℕ) (b : List ℕ) (k n : ℕ) : Type 0 where
   pub tablebase : AcceptedTablebase rings k n
   pub in-tables : InTables rings k b
 
-pub both-right : (rings : ℕ) (b : List ℕ) (k n : ℕ) → refusal (tablebasePicks rings b k n) ≡ 0
-    → (refusal (boardPicks rings b) ≡ 0) × (refusal (largestPicks rings k (countAbove k (count 1 b) (count 2 b)) n) ≡ 0)
-both-right rings b k n e =
-    both-passed (pickedRows refusalTable (boardPicks rings b)) (pickedRows refusalTable
+pub both-right : (rings edition : ℕ) (b : List ℕ) (k n : ℕ) → refusal (tablebasePicks rings edition b k n) ≡ 0
+    → (refusal (ruledPicks rings edition b) ≡ 0) × (refusal (largestPicks rings k (countAbove k (count 1 b) (count 2 b)) n) ≡ 0)
+both-right rings edition b k n e =
+    both-passed (pickedRows refusalTable (ruledPicks rings edition b)) (pickedRows refusalTable
     (largestPicks rings k (countAbove k (count 1 b) (count 2 b)) n)) refl e
 
-pub accepted-entry : (rings : ℕ) (b : List ℕ) (k n : ℕ) → refusal (tablebasePicks rings b k n) ≡ 0 → AcceptedEntry rings b k n
-accepted-entry rings b k n e =
+pub accepted-entry : (rings edition : ℕ) (b : List ℕ) (k n : ℕ) → refusal (tablebasePicks rings edition b k n) ≡ 0 → AcceptedEntry rings b k n
+accepted-entry rings edition b k n e =
     let above = countAbove k (count 1 b) (count 2 b) in
-    let p = both-right rings b k n e in
+    let p = both-right rings edition b k n e in
     let q = passed (pickedRows refusalTable (largestPicks rings k above n)) refl (p .1) in
-    let w = accepted-board rings b (p .0) in
+    let w = ruled-board rings edition b (p .0) in
     let l = largest-right k above (q .0) in
     let t = table-right (8 * rings) k (count 1 b) (count 2 b) (w .counted) (l .none-above) in
     record {
@@ -89,9 +92,10 @@ accepted-entry rings b k n e =
       in-tables = record { points = w .points; values = w .values; is-table = t };
     }
 
--- and every board of the tables of an accepted tablebase is one
-pub entry-passes : (rings : ℕ) (b : List ℕ) (k n : ℕ) → AcceptedTablebase rings k n → InTables rings k b → refusal (tablebasePicks rings b k n) ≡ 0
-entry-passes rings b k n a s =
+-- and every board of the tables of an accepted tablebase is one, under a right edition
+pub entry-passes : (rings edition : ℕ) (b : List ℕ) (k n : ℕ) → editionWrong edition ≡ false → AcceptedTablebase rings k n → InTables rings k b
+    → refusal (tablebasePicks rings edition b k n) ≡ 0
+entry-passes rings edition b k n d a s =
     let m = count 1 b in
     let o = count 2 b in
     let t = s .is-table in
@@ -111,50 +115,65 @@ entry-passes rings b k n a s =
     let above : countAbove k m o ≡ false = rw (le-ltb k m (t .mover-high), le-ltb k o (t .opponent-high)) in
     let right : largestWrong k (countAbove k m o) ≡ false = rw (le-ltb k 3 (a .largest-low), le-ltb 9 k (a .largest-high), above) in
     let exact : tablebaseWrong rings k n ≡ false = ap not (eq-eqb n (tablebaseLength (8 * rings) k) (a .exact)) in
-    first-after (pickedRows refusalTable (boardPicks rings b)) (pickedRows refusalTable (largestPicks rings k (countAbove k m o) n)) refl
-    (board-passes rings b board)
+    first-after (pickedRows refusalTable (ruledPicks rings edition b)) (pickedRows refusalTable (largestPicks rings k (countAbove k m o) n)) refl
+    (ruled-passes rings edition b d board)
     ∙ sym (passes (pickedRows refusalTable (largestPicks rings k (countAbove k m o) n)) (right, (exact, tt)))
 
 -- an accepted tablebase to fill
-pub record AcceptedFill (rings k limit n : ℕ) : Type 0 where
+pub record AcceptedFill (rings edition k limit n : ℕ) : Type 0 where
+  pub edition-accepted : editionWrong edition ≡ false
   pub tablebase : AcceptedTablebase rings k n
   pub limit-high : limit ≤ largestLimit
 
-pub accepted-fill : (rings k limit n : ℕ) → refusal (fillPicks rings k limit n) ≡ 0 → AcceptedFill rings k limit n
-accepted-fill rings k limit n e =
-    let p = passed (pickedRows refusalTable (fillPicks rings k limit n)) refl e in
+pub accepted-fill : (rings edition k limit n : ℕ) → refusal (fillPicks rings edition k limit n) ≡ 0 → AcceptedFill rings edition k limit n
+accepted-fill rings edition k limit n e =
+    let p = passed (pickedRows refusalTable (fillPicks rings edition k limit n)) refl e in
     record {
-      tablebase = tablebase-right rings k false n (rings-right rings (p .0)) (largest-right k false (p .1 .0)) (p .1 .1 .0);
-      limit-high = ltb-false largestLimit limit (p .1 .1 .1 .0);
+      edition-accepted = p .1 .0;
+      tablebase = tablebase-right rings k false n (rings-right rings (p .0)) (largest-right k false (p .1 .1 .0)) (p .1 .1 .1 .0);
+      limit-high = ltb-false largestLimit limit (p .1 .1 .1 .1 .0);
     }
 
 -- an accepted pair to fill
-pub record AcceptedPair (rings m o k limit n : ℕ) : Type 0 where
+pub record AcceptedPair (rings edition m o k limit n : ℕ) : Type 0 where
+  pub edition-accepted : editionWrong edition ≡ false
   pub tablebase : AcceptedTablebase rings k n
   pub is-table : IsTable (8 * rings) k m o
   pub limit-high : limit ≤ largestLimit
 
-pub accepted-pair : (rings m o k limit n : ℕ) → refusal (tablesPicks rings m o k limit n) ≡ 0 → AcceptedPair rings m o k limit n
-accepted-pair rings m o k limit n e =
-    let p = passed (pickedRows refusalTable (tablesPicks rings m o k limit n)) refl e in
-    let l = largest-right k (countAbove k m o) (p .1 .1 .0) in
+pub accepted-pair : (rings edition m o k limit n : ℕ) → refusal (tablesPicks rings edition m o k limit n) ≡ 0
+    → AcceptedPair rings edition m o k limit n
+accepted-pair rings edition m o k limit n e =
+    let p = passed (pickedRows refusalTable (tablesPicks rings edition m o k limit n)) refl e in
+    let l = largest-right k (countAbove k m o) (p .1 .1 .1 .0) in
     record {
-      tablebase = tablebase-right rings k (countAbove k m o) n (rings-right rings (p .0)) l (p .1 .1 .1 .0);
-      is-table = table-right (8 * rings) k m o (counts-right (8 * rings) m o (p .1 .0)) (l .none-above);
-      limit-high = ltb-false largestLimit limit (p .1 .1 .1 .1 .0);
+      edition-accepted = p .1 .0;
+      tablebase = tablebase-right rings k (countAbove k m o) n (rings-right rings (p .0)) l (p .1 .1 .1 .1 .0);
+      is-table = table-right (8 * rings) k m o (counts-right (8 * rings) m o (p .1 .1 .0)) (l .none-above);
+      limit-high = ltb-false largestLimit limit (p .1 .1 .1 .1 .1 .0);
     }
 
--- K, the limit and the tablebase come after the counts of a pair
-module _ (rings m o k limit n : ℕ) where
+-- the counts of a pair come after rings and edition; K, the tablebase and the limit after them
+module _ (rings edition m o k limit n : ℕ) where
+  abbrev counted : List Pick
+  counted = limitPicks rings k (countAbove k m o) limit n ++ stonesPicks rings m o
+
+  rings-first : RingsFirst rings counted
+  rings-first = record { no-frame = refl; rings-picked = refl; no-edition = refl }
+
   abbrev later : List Picked
   later = pickedRows refusalTable (limitPicks rings k (countAbove k m o) limit n)
 
-  pub tables-refused : (r : ℕ) → (r ≡ 0 → ⊥) → r ≡ refusal (stonesPicks rings m o) → r ≡ refusal (tablesPicks rings m o k limit n)
-  tables-refused r z e = first-kept (pickedRows refusalTable (stonesPicks rings m o)) later r z e
+  pub ruled-refused : (r : ℕ) → (r ≡ 0 → ⊥) → r ≡ refusal (editionPicks rings edition) → r ≡ refusal (tablesPicks rings edition m o k limit n)
+  ruled-refused r z e = edition-refused rings edition counted rings-first r z e
 
-  pub tables-decides : 0 ≡ refusal (stonesPicks rings m o)
-      → refusal (tablesPicks rings m o k limit n) ≡ refusal (limitPicks rings k (countAbove k m o) limit n)
-  tables-decides e = first-after (pickedRows refusalTable (stonesPicks rings m o)) later refl e
+  module _ (ruled : 0 ≡ refusal (editionPicks rings edition)) where
+    pub tables-refused : (r : ℕ) → (r ≡ 0 → ⊥) → r ≡ refusal (stonesPicks rings m o) → r ≡ refusal (tablesPicks rings edition m o k limit n)
+    tables-refused r z e = first-kept (pickedRows refusalTable (stonesPicks rings m o)) later r z e ∙ sym (edition-decides rings edition counted rings-first ruled)
+
+    pub tables-decides : 0 ≡ refusal (stonesPicks rings m o)
+        → refusal (tablesPicks rings edition m o k limit n) ≡ refusal (limitPicks rings k (countAbove k m o) limit n)
+    tables-decides e = edition-decides rings edition counted rings-first ruled ∙ first-after (pickedRows refusalTable (stonesPicks rings m o)) later refl e
 
 -- a limit comes after K and the tablebase
 module _ (rings k : ℕ) (above : Bool) (limit n : ℕ) where
@@ -165,50 +184,53 @@ module _ (rings k : ℕ) (above : Bool) (limit n : ℕ) where
   limit-decides e = one-more (pickedRows refusalTable (largestPicks rings k above n)) (limitWrong limit) 10 refl e
 
 -- the entries read come after board and tablebase: the one looked up
-module _ (rings : ℕ) (b : List ℕ) (k : ℕ) (tablebase : List ℕ) where
-  pub lookup-refused : (n : ℕ) → (n ≡ 0 → ⊥) → n ≡ refusal (tablebasePicks rings b k (length tablebase)) → n ≡ refusal (lookupPicks rings b k tablebase)
+module _ (rings edition : ℕ) (b : List ℕ) (k : ℕ) (tablebase : List ℕ) where
+  abbrev rows : List Picked
+  rows = pickedRows refusalTable (tablebasePicks rings edition b k (length tablebase))
+
+  pub lookup-refused : (n : ℕ) → (n ≡ 0 → ⊥) → n ≡ refusal (tablebasePicks rings edition b k (length tablebase)) → n ≡ refusal (lookupPicks rings edition b k tablebase)
   lookup-refused n z e =
-      first-kept (pickedRows refusalTable (tablebasePicks rings b k (length tablebase)))
+      first-kept rows
       (record { holds = isVoid (entryAt rings k tablebase b); number = 12 } ∷ []) n z e
 
-  pub lookup-decides : 0 ≡ refusal (tablebasePicks rings b k (length tablebase))
-      → refusal (lookupPicks rings b k tablebase) ≡ cond (isVoid (entryAt rings k tablebase b)) 12 0
-  lookup-decides e = one-more (pickedRows refusalTable (tablebasePicks rings b k (length tablebase))) (isVoid (entryAt rings k tablebase b)) 12 refl e
+  pub lookup-decides : 0 ≡ refusal (tablebasePicks rings edition b k (length tablebase))
+      → refusal (lookupPicks rings edition b k tablebase) ≡ cond (isVoid (entryAt rings k tablebase b)) 12 0
+  lookup-decides e = one-more rows (isVoid (entryAt rings k tablebase b)) 12 refl e
 
   -- no refusal at all: none before the entry is read
-  pub lookup-before : refusal (lookupPicks rings b k tablebase) ≡ 0 → refusal (tablebasePicks rings b k (length tablebase)) ≡ 0
+  pub lookup-before : refusal (lookupPicks rings edition b k tablebase) ≡ 0 → refusal (tablebasePicks rings edition b k (length tablebase)) ≡ 0
   lookup-before e =
-      both-passed (pickedRows refusalTable (tablebasePicks rings b k (length tablebase)))
+      both-passed rows
       (record { holds = isVoid (entryAt rings k tablebase b); number = 12 } ∷ []) refl e .0
 
   -- those of the successors, where the mover is not blocked
-  pub best-move-refused : (n : ℕ) → (n ≡ 0 → ⊥) → n ≡ refusal (tablebasePicks rings b k (length tablebase)) → n ≡ refusal (bestMovePicks rings b k tablebase)
+  pub best-move-refused : (n : ℕ) → (n ≡ 0 → ⊥) → n ≡ refusal (tablebasePicks rings edition b k (length tablebase)) → n ≡ refusal (bestMovePicks rings edition b k tablebase)
   best-move-refused n z e =
-      first-kept (pickedRows refusalTable (tablebasePicks rings b k (length tablebase)))
-      (record { holds = moverBlocked rings b; number = 9 } ∷ record { holds = successorVoid rings k tablebase b; number = 12 } ∷ []) n z e
+      first-kept rows
+      (record { holds = moverBlocked rings b; number = 9 } ∷ record { holds = successorVoid (removable edition) rings k tablebase b; number = 12 } ∷ []) n z e
 
-  pub best-move-decides : 0 ≡ refusal (tablebasePicks rings b k (length tablebase))
-      → refusal (bestMovePicks rings b k tablebase) ≡ cond (moverBlocked rings b) 9 (cond (successorVoid rings k tablebase b) 12 0)
+  pub best-move-decides : 0 ≡ refusal (tablebasePicks rings edition b k (length tablebase))
+      → refusal (bestMovePicks rings edition b k tablebase) ≡ cond (moverBlocked rings b) 9 (cond (successorVoid (removable edition) rings k tablebase b) 12 0)
   best-move-decides e =
-      let last : List Picked = record { holds = successorVoid rings k tablebase b; number = 12 } ∷ [] in
-      first-after (pickedRows refusalTable (tablebasePicks rings b k (length tablebase))) (record { holds = moverBlocked rings b; number = 9 } ∷ last) refl e
-      ∙ first-cons (moverBlocked rings b) 9 last ∙ ap (cond (moverBlocked rings b) 9) (first-cons (successorVoid rings k tablebase b) 12 [])
+      let last : List Picked = record { holds = successorVoid (removable edition) rings k tablebase b; number = 12 } ∷ [] in
+      first-after rows (record { holds = moverBlocked rings b; number = 9 } ∷ last) refl e
+      ∙ first-cons (moverBlocked rings b) 9 last ∙ ap (cond (moverBlocked rings b) 9) (first-cons (successorVoid (removable edition) rings k tablebase b) 12 [])
 
 -- those of a pair's lower tables
-module _ (rings m o k limit : ℕ) (tablebase : List ℕ) where
-  pub pair-refused : (n : ℕ) → (n ≡ 0 → ⊥) → n ≡ refusal (tablesPicks rings m o k limit (length tablebase))
-      → n ≡ refusal (pairPicks rings m o k limit tablebase)
+module _ (rings edition m o k limit : ℕ) (tablebase : List ℕ) where
+  pub pair-refused : (n : ℕ) → (n ≡ 0 → ⊥) → n ≡ refusal (tablesPicks rings edition m o k limit (length tablebase))
+      → n ≡ refusal (pairPicks rings edition m o k limit tablebase)
   pair-refused n z e =
-      first-kept (pickedRows refusalTable (tablesPicks rings m o k limit (length tablebase)))
+      first-kept (pickedRows refusalTable (tablesPicks rings edition m o k limit (length tablebase)))
       (record { holds = lowerVoid rings k tablebase m o; number = 12 } ∷ []) n z e
 
-  pub pair-decides : 0 ≡ refusal (tablesPicks rings m o k limit (length tablebase))
-      → refusal (pairPicks rings m o k limit tablebase) ≡ cond (lowerVoid rings k tablebase m o) 12 0
-  pair-decides e = one-more (pickedRows refusalTable (tablesPicks rings m o k limit (length tablebase))) (lowerVoid rings k tablebase m o) 12 refl e
+  pub pair-decides : 0 ≡ refusal (tablesPicks rings edition m o k limit (length tablebase))
+      → refusal (pairPicks rings edition m o k limit tablebase) ≡ cond (lowerVoid rings k tablebase m o) 12 0
+  pair-decides e = one-more (pickedRows refusalTable (tablesPicks rings edition m o k limit (length tablebase))) (lowerVoid rings k tablebase m o) 12 refl e
 
   -- no refusal at all: none before the lower tables are read
-  pub pair-before : refusal (pairPicks rings m o k limit tablebase) ≡ 0 → refusal (tablesPicks rings m o k limit (length tablebase)) ≡ 0
+  pub pair-before : refusal (pairPicks rings edition m o k limit tablebase) ≡ 0 → refusal (tablesPicks rings edition m o k limit (length tablebase)) ≡ 0
   pair-before e =
-      both-passed (pickedRows refusalTable (tablesPicks rings m o k limit (length tablebase)))
+      both-passed (pickedRows refusalTable (tablesPicks rings edition m o k limit (length tablebase)))
       (record { holds = lowerVoid rings k tablebase m o; number = 12 } ∷ [])
       refl e .0

@@ -1,22 +1,26 @@
--- The conditions of document 01's table, and what calls pick of it for their arguments. Assumes nothing.
+-- The conditions of the table, and what calls pick of it for their arguments. Assumes nothing.
 use mathlib.Core.Bool.{Bool, false, not, _||_}
 use mathlib.Core.List.{List, [], _∷_, _++_}
 use Prim.Native.Nat.{ℕ, _+_, _*_}
 use lib.Dec.{eqb, leb, ltb}
 use lib.ListN.{length}
-use Rattle.lists.specs.Lists.{member, isEmpty}
+use Rattle.lists.specs.Lists.{member}
 use Rattle.board.specs.Board.{count}
 use Rattle.sizes.specs.Size.{size}
 use Rattle.layout.specs.Layout.{tablebaseLength}
-use Rattle.rules.specs.Ply.{legalMoves}
+use Rattle.rules.specs.Ply.{removable, moves, blocked}
 use Rattle.frames.specs.Frame.{frameWrong, frameLength, ringsIn, boardIn}
 use Rattle.outcomes.specs.Places.{entryAt, isVoid, successorVoid, lowerVoid}
-use Rattle.refusals.specs.Refusals.{Pick, pick, wrongFrame, wrongRings, wrongLength, wrongValue, wrongCounts}
+use Rattle.refusals.specs.Refusals.{Pick, pick, wrongFrame, wrongRings, wrongEdition, wrongLength, wrongValue, wrongCounts}
 use Rattle.refusals.specs.Refusals.{wrongLargest, wrongTablebase, wrongLimit, wrongTarget, shortTarget, wrongRank, wrongMove, blockedMover, voidRead}
 
 -- 1: not 1, 2 or 3
 abbrev pub ringsWrong : ℕ → Bool
 ringsWrong rings = ltb rings 1 || ltb 3 rings
+
+-- 20: not 1 or 2
+abbrev pub editionWrong : ℕ → Bool
+editionWrong edition = ltb edition 1 || ltb 2 edition
 
 -- 2 and 6: the length of a board is not 8 × rings
 abbrev pub lengthWrong : ℕ → ℕ → Bool
@@ -64,12 +68,12 @@ abbrev pub rankWrong : ℕ → ℕ → ℕ → ℕ → Bool
 rankWrong points m o r = leb (size points m o) r
 
 -- 8: not a listed move, whatever the order of the list
-abbrev pub moveWrong : ℕ → List ℕ → ℕ → Bool
-moveWrong rings b move = not (member move (legalMoves rings b))
+abbrev pub moveWrong : ℕ → ℕ → List ℕ → ℕ → Bool
+moveWrong rings edition b move = not (member move (moves (removable edition) rings b))
 
--- 9: best move sought, mover blocked
+-- 9: best move sought, mover blocked, whatever the edition
 abbrev pub moverBlocked : ℕ → List ℕ → Bool
-moverBlocked rings b = isEmpty (legalMoves rings b)
+moverBlocked rings b = blocked rings b
 
 -- what every call picks for rings and a board
 abbrev pub boardPicks : ℕ → List ℕ → List Pick
@@ -79,6 +83,18 @@ boardPicks rings b =
     ∷ pick wrongValue (valueWrong b)
     ∷ pick wrongCounts (countsWrong (8 * rings) (count 1 b) (count 2 b))
     ∷ []
+
+-- the edition besides
+abbrev pub underEdition : ℕ → List Pick → List Pick
+underEdition edition picks = pick wrongEdition (editionWrong edition) ∷ picks
+
+-- what a call picks for rings and an edition
+abbrev pub editionPicks : ℕ → ℕ → List Pick
+editionPicks rings edition = underEdition edition (pick wrongRings (ringsWrong rings) ∷ [])
+
+-- what a call under an edition picks for rings and a board
+abbrev pub ruledPicks : ℕ → ℕ → List ℕ → List Pick
+ruledPicks rings edition b = underEdition edition (boardPicks rings b)
 
 -- what a call picks for rings and counts
 abbrev pub stonesPicks : ℕ → ℕ → ℕ → List Pick
@@ -92,50 +108,57 @@ countsPicks rings m o room = pick wrongTarget (lengthWrong rings room) ∷ stone
 abbrev pub rankPicks : ℕ → ℕ → ℕ → ℕ → ℕ → List Pick
 rankPicks rings m o r room = pick wrongRank (rankWrong (8 * rings) m o r) ∷ countsPicks rings m o room
 
--- what a call picks for rings, a board and a target of so many places that is to hold so many
+-- what a call picks for rings, a board and a frame target of so many places that is to hold so many
 abbrev pub shortPicks : ℕ → List ℕ → ℕ → ℕ → List Pick
 shortPicks rings b room needed = pick shortTarget (targetShort room needed) ∷ boardPicks rings b
 
--- what a call picks for rings, a board and a target of so many bytes
-abbrev pub targetPicks : ℕ → List ℕ → ℕ → List Pick
-targetPicks rings b room = pick wrongTarget (lengthWrong rings room) ∷ boardPicks rings b
+-- and for a move list
+abbrev pub listPicks : ℕ → ℕ → List ℕ → ℕ → ℕ → List Pick
+listPicks rings edition b room needed = pick shortTarget (targetShort room needed) ∷ ruledPicks rings edition b
+
+-- what a call picks for rings, an edition, a board and a target of so many bytes
+abbrev pub targetPicks : ℕ → ℕ → List ℕ → ℕ → List Pick
+targetPicks rings edition b room = pick wrongTarget (lengthWrong rings room) ∷ ruledPicks rings edition b
 
 -- and for a move besides
-abbrev pub movePicks : ℕ → List ℕ → ℕ → ℕ → List Pick
-movePicks rings b move room = pick wrongMove (moveWrong rings b move) ∷ targetPicks rings b room
+abbrev pub movePicks : ℕ → ℕ → List ℕ → ℕ → ℕ → List Pick
+movePicks rings edition b move room = pick wrongMove (moveWrong rings edition b move) ∷ targetPicks rings edition b room
 
 -- what a call picks for K and a tablebase of so many entries, by whether a count is above K
 abbrev pub largestPicks : ℕ → ℕ → Bool → ℕ → List Pick
 largestPicks rings k above n = pick wrongLargest (largestWrong k above) ∷ pick wrongTablebase (tablebaseWrong rings k n) ∷ []
 
--- what a call picks for rings, a board, K and a tablebase of so many entries
-abbrev pub tablebasePicks : ℕ → List ℕ → ℕ → ℕ → List Pick
-tablebasePicks rings b k n = largestPicks rings k (countAbove k (count 1 b) (count 2 b)) n ++ boardPicks rings b
+-- what a call picks for rings, an edition, a board, K and a tablebase of so many entries
+abbrev pub tablebasePicks : ℕ → ℕ → List ℕ → ℕ → ℕ → List Pick
+tablebasePicks rings edition b k n = largestPicks rings k (countAbove k (count 1 b) (count 2 b)) n ++ ruledPicks rings edition b
 
 -- and for the entry looked up besides; 12: void there
-abbrev pub lookupPicks : ℕ → List ℕ → ℕ → List ℕ → List Pick
-lookupPicks rings b k tablebase = pick voidRead (isVoid (entryAt rings k tablebase b)) ∷ tablebasePicks rings b k (length tablebase)
+abbrev pub lookupPicks : ℕ → ℕ → List ℕ → ℕ → List ℕ → List Pick
+lookupPicks rings edition b k tablebase = pick voidRead (isVoid (entryAt rings k tablebase b)) ∷ tablebasePicks rings edition b k (length tablebase)
 
 -- and for a best move instead; 12: void in any successor
-abbrev pub bestMovePicks : ℕ → List ℕ → ℕ → List ℕ → List Pick
-bestMovePicks rings b k tablebase =
-    pick blockedMover (moverBlocked rings b) ∷ pick voidRead (successorVoid rings k tablebase b) ∷ tablebasePicks rings b k (length tablebase)
+abbrev pub bestMovePicks : ℕ → ℕ → List ℕ → ℕ → List ℕ → List Pick
+bestMovePicks rings edition b k tablebase =
+    pick blockedMover (moverBlocked rings b)
+    ∷ pick voidRead (successorVoid (removable edition) rings k tablebase b)
+    ∷ tablebasePicks rings edition b k (length tablebase)
 
 -- what a call picks for K, a limit and a tablebase of so many entries to fill, by whether a count is above K
 abbrev pub limitPicks : ℕ → ℕ → Bool → ℕ → ℕ → List Pick
 limitPicks rings k above limit n = pick wrongLimit (limitWrong limit) ∷ largestPicks rings k above n
 
 -- what a call picks to fill a tablebase: no count is given
-abbrev pub fillPicks : ℕ → ℕ → ℕ → ℕ → List Pick
-fillPicks rings k limit n = pick wrongRings (ringsWrong rings) ∷ limitPicks rings k false limit n
+abbrev pub fillPicks : ℕ → ℕ → ℕ → ℕ → ℕ → List Pick
+fillPicks rings edition k limit n = limitPicks rings k false limit n ++ editionPicks rings edition
 
 -- what a call picks to fill a pair of tables
-abbrev pub tablesPicks : ℕ → ℕ → ℕ → ℕ → ℕ → ℕ → List Pick
-tablesPicks rings m o k limit n = limitPicks rings k (countAbove k m o) limit n ++ stonesPicks rings m o
+abbrev pub tablesPicks : ℕ → ℕ → ℕ → ℕ → ℕ → ℕ → ℕ → List Pick
+tablesPicks rings edition m o k limit n = underEdition edition (limitPicks rings k (countAbove k m o) limit n ++ stonesPicks rings m o)
 
 -- and for the lower tables besides; 12: void there
-abbrev pub pairPicks : ℕ → ℕ → ℕ → ℕ → ℕ → List ℕ → List Pick
-pairPicks rings m o k limit tablebase = pick voidRead (lowerVoid rings k tablebase m o) ∷ tablesPicks rings m o k limit (length tablebase)
+abbrev pub pairPicks : ℕ → ℕ → ℕ → ℕ → ℕ → ℕ → List ℕ → List Pick
+pairPicks rings edition m o k limit tablebase =
+    pick voidRead (lowerVoid rings k tablebase m o) ∷ tablesPicks rings edition m o k limit (length tablebase)
 
 -- what a call picks for a frame
 abbrev pub framePicks : List ℕ → List Pick

@@ -1,5 +1,5 @@
 -- Where a call is turned back (document 01, the table of that name): "Places are taken from top to bottom, conditions left to right; a call
--- meets those that concern its arguments." Assumes nothing.
+-- meets those that concern its arguments." Document 02, A11: "20, edition not 1 or 2, directly after 1." Assumes nothing.
 use mathlib.Core.Bool.{Bool, true, false}
 use mathlib.Core.List.{List, [], _∷_, _++_}
 use Prim.Native.Nat.{ℕ}
@@ -8,7 +8,7 @@ use lib.Dec.{eqb}
 -- the conditions, by what is wrong
 pub data Condition : Type 0 where
   wrongFrame wrongRings wrongLength wrongValue wrongCounts wrongLargest wrongTablebase wrongLimit : Condition
-  wrongTarget shortTarget wrongRank wrongMove blockedMover voidRead tooDeep : Condition
+  wrongTarget shortTarget wrongRank wrongMove blockedMover voidRead tooDeep wrongEdition : Condition
 
 -- a row: a condition, and the number of its refusal
 pub record Row : Type 0 where
@@ -22,7 +22,7 @@ refusalRow c n = record { condition = c; number = n }
 abbrev pub refusalTable : List Row
 refusalTable =
     refusalRow wrongFrame 14
-    ∷ refusalRow wrongRings 1
+    ∷ refusalRow wrongRings 1 ∷ refusalRow wrongEdition 20
     ∷ refusalRow wrongLength 2 ∷ refusalRow wrongValue 3
     ∷ refusalRow wrongCounts 4
     ∷ refusalRow wrongLargest 11 ∷ refusalRow wrongTablebase 6
@@ -50,6 +50,7 @@ index wrongMove = 11
 index blockedMover = 12
 index voidRead = 13
 index tooDeep = 14
+index wrongEdition = 15
 
 -- what a call picks of the table: a condition that concerns its arguments, and whether it holds
 pub record Pick : Type 0 where

@@ -1,6 +1,6 @@
-// Where a call is turned back: the numbers of document 01's table. Its conditions and their order are definitions; the tests stand above, by subject.
+// Where a call is turned back: the numbers of document 01's table, and 20 of document 02. Its conditions and their order are definitions; the tests stand above, by subject.
 
-// The refusal numbers of document 01.
+// The refusal numbers.
 pub const RINGS: u8 = 1;
 
 pub const BOARD_LENGTH: u8 = 2;
@@ -30,3 +30,5 @@ pub const VOID_READ: u8 = 12;
 pub const TOO_DEEP: u8 = 13;
 
 pub const FRAME: u8 = 14;
+
+pub const EDITION: u8 = 20;

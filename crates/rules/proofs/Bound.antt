@@ -1,8 +1,9 @@
--- How many moves a board can have: 324 at the most, nine stones of four neighbours or three of all vacant points, each with up to nine removals.
+-- How many moves a board can have under an edition: 324 at the most, nine stones of four neighbours or three of all vacant points, each with up to nine removals.
 -- Assumes nothing.
 use mathlib.Core.Path.{_≡_, refl, sym, ap, subst, _∙_}
 use mathlib.Core.Bool.{Bool, true, false, not, _||_}
 use mathlib.Core.List.{List, [], _∷_, List·Memᴰ}
+use mathlib.Core.Logic.{_⊎_, inl, inr}
 use Prim.Native.Nat.{ℕ, _+_, _-_, _*_, _≤_, _<_}
 use native.Mathlib.Nat.{mul-le-mul-right, le-trans}
 use native.Mathlib.Omega.{arith}
@@ -20,37 +21,49 @@ use Rattle.board.specs.Board.{Values, count, setOf}
 use Rattle.board.proofs.Sides.{members-count}
 use Rattle.board.proofs.Counts.{count-all}
 use Rattle.geometry.proofs.Geometry.{neighbours-are, neighbours-within, neighbours-few}
-use Rattle.rules.specs.Ply.{holds, holding, inMill, destinations, slide, unshielded, removable, noRemoval, removals, moveNumber, slideMoves, stoneMoves, moves, legalMoves}
+use Rattle.rules.specs.Ply.{holds, holding, inMill, destinations, slide, unshielded, ifAllShielded, removable, noRemoval, removals, moveNumber, slideMoves, stoneMoves, moves}
 use Rattle.rules.specs.MoveList.{listedMoves}
 use Rattle.rules.proofs.CapturesFirst.{listed-length}
-use Rattle.rules.proofs.Listed.{holding-is, destination-vacant}
+use Rattle.rules.proofs.Listed.{holding-is, destination-vacant, removable-are, shielded-cases}
 use Rattle.rules.proofs.Leads.{slide-length, slide-counts}
 use Rattle.rules.proofs.OnSets.{holding-set}
 
-module _ (rings : ℕ) (small : rings ≤ 3) where
+module _ (edition rings : ℕ) (small : rings ≤ 3) where
   length-holding : (b : List ℕ) → length b ≡ 8 * rings → (v : ℕ) → length (holding rings b v) ≡ count v b
   length-holding b whole v =
       ap length (holding-set rings small b whole v) ∙ length-elements 32 (setOf v b) ∙ members-count v b (omega (arith, whole))
 
-  removable-le : (b : List ℕ) → length b ≡ 8 * rings → length (removable rings b) ≤ count 2 b
-  unfolding removable unshielded
+  unshielded-le : (b : List ℕ) → length (unshielded rings b) ≤ length (holding rings b 2)
+  unfolding unshielded
+  unshielded-le b = keep-le (λ p. not (inMill rings (holds b 2) p)) (holding rings b 2)
+
+  shielded-le : (b : List ℕ) → length (ifAllShielded edition rings b) ≤ length (holding rings b 2)
+  shielded-le b = go (shielded-cases edition rings b)
+    where
+      go : (ifAllShielded edition rings b ≡ []) ⊎ (ifAllShielded edition rings b ≡ holding rings b 2)
+          → length (ifAllShielded edition rings b) ≤ length (holding rings b 2)
+      go (inl e) = rw e (omega arith)
+      go (inr e) = rw e (omega arith)
+
+  removable-le : (b : List ℕ) → length b ≡ 8 * rings → length (removable edition rings b) ≤ count 2 b
   removable-le b whole =
       let h = length-holding b whole 2 in
-      orElse-le (count 2 b) (unshielded rings b) (holding rings b 2)
-      (omega (arith, h, keep-le (λ p. not (inMill rings (holds b 2) p)) (holding rings b 2))) (omega (arith, h))
+      subst (λ (l : List ℕ). length l ≤ count 2 b) (sym (removable-are edition rings b))
+      (orElse-le (count 2 b) (unshielded rings b) (ifAllShielded edition rings b)
+      (omega (arith, h, unshielded-le b)) (omega (arith, h, shielded-le b)))
 
-  removals-le : (b : List ℕ) → length b ≡ 8 * rings → 1 ≤ count 2 b → (to : ℕ) → length (removals (λ n c. removable n c) rings b to) ≤ count 2 b
+  removals-le : (b : List ℕ) → length b ≡ 8 * rings → 1 ≤ count 2 b → (to : ℕ) → length (removals (removable edition) rings b to) ≤ count 2 b
   unfolding removals
   removals-le b whole some to = go (inMill rings (holds b 1) to) refl
     where
-      go : (x : Bool) → inMill rings (holds b 1) to ≡ x → length (removals (λ n c. removable n c) rings b to) ≤ count 2 b
-      go true e = rw (e, removals) (orElse-le (count 2 b) (removable rings b) (noRemoval ∷ []) (removable-le b whole) some)
+      go : (x : Bool) → inMill rings (holds b 1) to ≡ x → length (removals (removable edition) rings b to) ≤ count 2 b
+      go true e = rw (e, removals) (orElse-le (count 2 b) (removable edition rings b) (noRemoval ∷ []) (removable-le b whole) some)
       go false e = rw (e, removals) some
 
   module _ (b : List ℕ) (whole : length b ≡ 8 * rings) (values : Values b) (m : count 1 b ≤ 9) (some : 1 ≤ count 2 b) (o : count 2 b ≤ 9) where
     -- a stone's moves to one point
     slide-few : (from to : ℕ) → getD b from 0 ≡ 1 → from < 8 * rings → List·Memᴰ to (destinations rings b from)
-        → length (slideMoves (λ n c. removable n c) rings b from to) ≤ count 2 b
+        → length (slideMoves (removable edition) rings b from to) ≤ count 2 b
     slide-few from to own low t =
         let v = destination-vacant rings b from to t in
         let hf : from < length b = omega (arith, whole) in
@@ -60,7 +73,7 @@ module _ (rings : ℕ) (small : rings ≤ 3) where
         omega (
           arith,
           n .1,
-          length-map (removals (λ n c. removable n c) rings (slide b from to) to) (λ r. moveNumber from to r),
+          length-map (removals (removable edition) rings (slide b from to) to) (λ r. moveNumber from to r),
           removals-le (slide b from to) (l ∙ whole) (omega (arith, n .1, some)) to,
         )
 
@@ -87,22 +100,22 @@ module _ (rings : ℕ) (small : rings ≤ 3) where
         )
 
     stone-few : (k : ℕ) → ((from : ℕ) → from < 24 → length (destinations rings b from) ≤ k) → (from : ℕ) → List·Memᴰ from (holding rings b 1)
-        → length (stoneMoves (λ n c. removable n c) rings b from (destinations rings b from)) ≤ k * count 2 b
+        → length (stoneMoves (removable edition) rings b from (destinations rings b from)) ≤ k * count 2 b
     stone-few k few from i =
         let h = holding-is rings b 1 from i in
-        le-trans (each-le (λ to. slideMoves (λ n c. removable n c) rings b from to) (count 2 b) (destinations rings b from)
+        le-trans (each-le (λ to. slideMoves (removable edition) rings b from to) (count 2 b) (destinations rings b from)
         (λ to t. slide-few from to (h .1) (h .0) t))
         (mul-le-mul-right (count 2 b) (few from (omega (arith, h .0))))
 
     all-few : (k : ℕ) → ((from : ℕ) → from < 24 → length (destinations rings b from) ≤ k)
-        → length (moves (λ n c. removable n c) rings b) ≤ count 1 b * (k * count 2 b)
+        → length (moves (removable edition) rings b) ≤ count 1 b * (k * count 2 b)
     unfolding moves
     all-few k few =
-        subst (λ (n : ℕ). length (moves (λ n c. removable n c) rings b) ≤ n * (k * count 2 b)) (length-holding b whole 1)
-        (each-le (λ from. stoneMoves (λ n c. removable n c) rings b from (destinations rings b from)) (k * count 2 b) (holding rings b 1)
+        subst (λ (n : ℕ). length (moves (removable edition) rings b) ≤ n * (k * count 2 b)) (length-holding b whole 1)
+        (each-le (λ from. stoneMoves (removable edition) rings b from (destinations rings b from)) (k * count 2 b) (holding rings b 1)
         (λ from i. stone-few k few from i))
 
-    pub moves-bound : length (moves (λ n c. removable n c) rings b) ≤ 324
+    pub moves-bound : length (moves (removable edition) rings b) ≤ 324
     moves-bound = go (eqb (count 1 b) 3) refl
       where
         vacant : count 0 b + count 1 b + count 2 b ≤ 24
@@ -114,12 +127,12 @@ module _ (rings : ℕ) (small : rings ≤ 3) where
             let c : z * o ≤ (21 - o) * o = mul-le-mul-right o (omega (arith, e, h)) in
             rw e (omega (arith, a, c))
 
-        go : (x : Bool) → eqb (count 1 b) 3 ≡ x → length (moves (λ n c. removable n c) rings b) ≤ 324
+        go : (x : Bool) → eqb (count 1 b) 3 ≡ x → length (moves (removable edition) rings b) ≤ 324
         go true e =
             le-trans (all-few (count 0 b) (λ from h. jump-few from)) (product (count 1 b) (count 0 b) (count 2 b) (eqb-true (count 1 b) 3 e) vacant o)
         go false e =
             le-trans (all-few 4 (λ from h. near-few (eqb-false (count 1 b) 3 e) from h)) (le-trans (mul-le-mul-right (4 * count 2 b) m) (omega arith))
 
     -- captures first, the list is as long
-    pub listed-bound : length (listedMoves rings b) ≤ 324
-    listed-bound = omega (arith, listed-length (legalMoves rings b), moves-bound)
+    pub listed-bound : length (listedMoves (removable edition) rings b) ≤ 324
+    listed-bound = omega (arith, listed-length (moves (removable edition) rings b), moves-bound)

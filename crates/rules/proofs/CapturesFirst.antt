@@ -14,7 +14,7 @@ use Rattle.lists.proofs.Keep.{keep-map}
 use Rattle.lists.proofs.Parted.{parted-member, member-parted, parted-length, parted-empty, parted-first, parted-rises, parted-once}
 use Rattle.lists.proofs.Tests.{same-test, clash, member-is, is-member, keep-same}
 use Rattle.board.specs.Board.{Values}
-use Rattle.rules.specs.Ply.{slide, noRemoval, removals, moveNumber, fromOf, toOf, removedOf, slideMoves, moves}
+use Rattle.rules.specs.Ply.{Rule, slide, noRemoval, removals, moveNumber, fromOf, toOf, removedOf, slideMoves, moves}
 use Rattle.rules.specs.MoveList.{isCapture, captures, others, capturesFirst}
 use Rattle.rules.proofs.Listed.{TakesOpponent, move-of, removal-cases}
 use Rattle.rules.proofs.Leads.{listed-parts}
@@ -75,7 +75,7 @@ listed-ordered ms rising i j before last = record {
   once = parted-once (λ m. isCapture m) ms i j before last rising;
 }
 
-module _ (rule : ℕ → List ℕ → List ℕ) (takes : TakesOpponent rule) (rings : ℕ) (small : rings ≤ 3) where
+module _ (rule : Rule) (takes : TakesOpponent rule) (rings : ℕ) (small : rings ≤ 3) where
   -- a capture removes a stone that the rule names
   pub capture-takes : (b : List ℕ) → Values b → length b ≡ 8 * rings → (n : ℕ) → List·Memᴰ n (moves rule rings b) → isCapture n ≡ true
       → List·Memᴰ (removedOf n) (rule rings (slide b (fromOf n) (toOf n)))

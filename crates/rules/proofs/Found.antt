@@ -13,7 +13,7 @@ use borrow.Author.Tests.{eqb-true, eqb-false, ne-eqb, not-true}
 use Rattle.lists.proofs.Members.{keep-member, member-keep, each-member, member-each, map-member, member-map}
 use Rattle.geometry.specs.Geometry.{follows, inward, adjoin}
 use Rattle.board.specs.Board.{Values, count, digit}
-use Rattle.rules.specs.Ply.{holds, holding, inMill, slide, noRemoval, removals, remove, exchange, successors}
+use Rattle.rules.specs.Ply.{Rule, holds, holding, inMill, slide, noRemoval, removals, remove, exchange, successors}
 use Rattle.rules.specs.Predecessors.{moved, origins, unslide, restored, predecessors}
 use Rattle.rules.proofs.Listed.{Move, move-of, holding-is, is-holding, removals-without, successor-of, TakesOpponent}
 use Rattle.rules.proofs.Leads.{Removed, BeforeExchange, removed-of, removed-before, listed-parts, after-parts, remove-none, remove-one, exchange-at, exchange-counts, exchange-values, slide-counts, slide-length, slide-values, count-set, values-set}
@@ -82,7 +82,7 @@ unfolding predecessors
 is-predecessor capture rings c b from to m o k = member-each _ (moved capture rings c) to m (member-each _ (origins rings c to) from o k)
 
 -- a stone is removed only where a mill is closed
-removal-closes : (rule : ℕ → List ℕ → List ℕ) (rings : ℕ) (b : List ℕ) (to r : ℕ) → List·Memᴰ r (removals rule rings b to) → (r ≡ noRemoval → ⊥)
+removal-closes : (rule : Rule) (rings : ℕ) (b : List ℕ) (to r : ℕ) → List·Memᴰ r (removals rule rings b to) → (r ≡ noRemoval → ⊥)
     → inMill rings (holds b 1) to ≡ true
 removal-closes rule rings b to r m n = go (inMill rings (holds b 1) to) refl
   where
@@ -114,7 +114,7 @@ module _ (rings : ℕ) (d : List ℕ) (v : Values d) where
   back-after from to = ap (λ (l : List ℕ). slide l to from) (exchange-twice d v)
 
 -- the board before a move is among those before the board after it
-module _ (rule : ℕ → List ℕ → List ℕ) (rings : ℕ) (small : rings ≤ 3) (b : List ℕ) (points : length b ≡ 8 * rings) (from to r : ℕ)
+module _ (rule : Rule) (rings : ℕ) (small : rings ≤ 3) (b : List ℕ) (points : length b ≡ 8 * rings) (from to r : ℕ)
     (m : Move rule rings b from to r) where
   abbrev slid : List ℕ
   slid = slide b from to
@@ -187,7 +187,7 @@ abbrev pub Predecessor : ℕ → List ℕ → List ℕ → Type 0
 Predecessor rings b c =
     (List·Memᴰ b (predecessors false rings c) × (count 1 c ≡ count 2 b)) ⊎ (List·Memᴰ b (predecessors true rings c) × (suc (count 1 c) ≡ count 2 b))
 
-module _ (rule : ℕ → List ℕ → List ℕ) (takes : TakesOpponent rule) (rings : ℕ) (small : rings ≤ 3) (b : List ℕ) (v : Values b)
+module _ (rule : Rule) (takes : TakesOpponent rule) (rings : ℕ) (small : rings ≤ 3) (b : List ℕ) (v : Values b)
     (points : length b ≡ 8 * rings) where
   found-move : (from to r : ℕ) → Move rule rings b from to r → Predecessor rings b (map (λ x. exchange x) (remove (slide b from to) r))
   found-move from to r m =

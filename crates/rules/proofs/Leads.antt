@@ -3,17 +3,18 @@
 use mathlib.Core.Path.{_≡_, refl, sym, ap, subst, _∙_}
 use mathlib.Core.Bool.{Bool, true, false}
 use mathlib.Core.List.{List, [], _∷_, map, List·Memᴰ}
-use mathlib.Core.Logic.{_⊎_, inl, inr}
+use mathlib.Core.Logic.{_⊎_, inl, inr, ⊎-elim}
 use Prim.Native.Nat.{ℕ, zero, suc, _+_, _*_, _≤_, _<_}
 use native.Mathlib.Nat.{not-suc-le-zero, le-of-suc-le-suc}
 use native.Mathlib.Omega.{arith}
 use lib.Dec.{eqb}
 use lib.ListN.{getD, set, length, length-set, length-map, List·getD-map}
-use lib.Seq.{getD-set-other}
+use lib.Seq.{getD-set-same, getD-set-other}
 use borrow.Author.Tests.{eqb-true, eqb-false, eq-eqb, ne-eqb}
 use Rattle.board.specs.Board.{Values, count, digit}
 use Rattle.board.proofs.Sides.{more-digit}
-use Rattle.rules.specs.Ply.{slide, noRemoval, moveNumber, fromOf, toOf, removedOf, moves, remove, exchange, afterPly, successors}
+use Rattle.rules.specs.Ply.{Rule, slide, noRemoval, moveNumber, fromOf, toOf, removedOf, moves, remove, exchange, afterPly, successors}
+use Rattle.rules.specs.Inner.Making.{Makeable}
 use Rattle.rules.proofs.Listed.{Move, Listed, move-of, removal-cases, successor-of, TakesOpponent}
 
 -- a store moves one unit from the old value's count to the new one's
@@ -111,6 +112,32 @@ module _ (b : List ℕ) (from to : ℕ) (hf : from < length b) (ht : to < length
       let c₂ = rw f at (count-set 2 (set b from 0) to 1 h) in
       (omega arith, omega arith)
 
+  -- another point is as it was
+  slide-other : (r : ℕ) → (r ≡ from → ⊥) → (r ≡ to → ⊥) → getD (slide b from to) r 0 ≡ getD b r 0
+  unfolding slide
+  slide-other r f t = getD-set-other (set b from 0) to r 1 0 t ∙ getD-set-other b from r 0 0 f
+
+  slide-to : getD (slide b from to) to 0 ≡ 1
+  unfolding slide
+  slide-to = getD-set-same (set b from 0) to 1 0 (omega (arith, length-set b from 0))
+
+  slide-from : getD (slide b from to) from 0 ≡ 0
+  unfolding slide
+  slide-from =
+      getD-set-other (set b from 0) to from 1 0 (λ e. let z = sym own ∙ ap (λ (i : ℕ). getD b i 0) e ∙ vacant in omega arith)
+      ∙ getD-set-same b from 0 0 hf
+
+  -- so an opposing stone before the slide is one after it
+  pub opposing-slid : (r : ℕ) → getD b r 0 ≡ 2 → getD (slide b from to) r 0 ≡ 2
+  opposing-slid r e =
+      slide-other r (λ z. let q = sym e ∙ ap (λ (i : ℕ). getD b i 0) z ∙ own in omega arith)
+      (λ z. let q = sym e ∙ ap (λ (i : ℕ). getD b i 0) z ∙ vacant in omega arith) ∙ e
+
+  pub slid-opposing : (r : ℕ) → getD (slide b from to) r 0 ≡ 2 → getD b r 0 ≡ 2
+  slid-opposing r e =
+      sym (slide-other r (λ z. let q = sym e ∙ ap (λ (i : ℕ). getD (slide b from to) i 0) z ∙ slide-from in omega arith)
+      (λ z. let q = sym e ∙ ap (λ (i : ℕ). getD (slide b from to) i 0) z ∙ slide-to in omega arith)) ∙ e
+
 -- one opposing stone is removed, or none
 abbrev pub Removed : List ℕ → ℕ → Type 0
 Removed b r = (r ≡ noRemoval) ⊎ ((r < length b) × (r < 24) × (getD b r 0 ≡ 2))
@@ -171,7 +198,7 @@ removed-before b from to r hf ht own vacant d g = go g
           opponent = inr (h .1, omega (arith, n .1));
         }
 
-module _ (rule : ℕ → List ℕ → List ℕ) (takes : TakesOpponent rule) (rings : ℕ) (small : rings ≤ 3) (b : List ℕ) (v : Values b)
+module _ (rule : Rule) (takes : TakesOpponent rule) (rings : ℕ) (small : rings ≤ 3) (b : List ℕ) (v : Values b)
     (points : length b ≡ 8 * rings) where
   pub removed-of : (from to r : ℕ) → Move rule rings b from to r → Removed (slide b from to) r
   removed-of from to r m = go (removal-cases rule rings (slide b from to) to (m .removal))
@@ -189,17 +216,58 @@ module _ (rule : ℕ → List ℕ → List ℕ) (takes : TakesOpponent rule) (ri
       parts-of n (l .from) (l .to) (l .removed) (omega (arith, l .move .to-low))
       (removed-low (slide b (l .from) (l .to)) (l .removed) (removed-of (l .from) (l .to) (l .removed) (l .move))) (l .number)
 
-  pub ply-leads : (n : ℕ) → List·Memᴰ n (moves rule rings b) → Leads b (afterPly b n) (removedOf n)
-  ply-leads n i = go (move-of rule rings b n i)
+  -- a listed move can be made
+  pub listed-makeable : (n : ℕ) → List·Memᴰ n (moves rule rings b) → Makeable rings b n
+  listed-makeable n i = go (move-of rule rings b n i)
     where
-      go : Listed rule rings b n → Leads b (afterPly b n) (removedOf n)
+      go : Listed rule rings b n → Makeable rings b n
       go l =
           let q = listed-parts n l in
           let m = l .move in
-          rw (after-parts b n (l .from) (l .to) (l .removed) q, q .removed-is)
-          (exchanged b (remove (slide b (l .from) (l .to)) (l .removed)) (l .removed)
-          (removed-before b (l .from) (l .to) (l .removed) (omega (arith, m .from-low)) (omega (arith, m .to-low)) (m .own) (m .vacant) v
-          (removed-of (l .from) (l .to) (l .removed) m)))
+          let lf : l .from < length b = omega (arith, m .from-low) in
+          let lt : l .to < length b = omega (arith, m .to-low) in
+          let taken : Removed (slide b (l .from) (l .to)) (l .removed)
+          → (l .removed ≡ noRemoval) ⊎ ((l .removed < 8 * rings) × (getD b (l .removed) 0 ≡ 2)) =
+          λ r. ⊎-elim (λ e. inl e) (λ h. inr (
+            omega (arith, h .0, slide-length b (l .from) (l .to)),
+            slid-opposing b (l .from) (l .to) lf lt (m .own) (m .vacant) (l .removed) (h .2),
+          )) r in
+          record {
+            from-low = rw (q .from-is) (m .from-low);
+            to-low = rw (q .to-is) (m .to-low);
+            own = rw (q .from-is) (m .own);
+            vacant = rw (q .to-is) (m .vacant);
+            removed = rw (q .removed-is) (taken (removed-of (l .from) (l .to) (l .removed) m));
+          }
+
+-- where a move that can be made leads, by whatever rule
+module _ (rings : ℕ) (small : rings ≤ 3) (b : List ℕ) (v : Values b) (points : length b ≡ 8 * rings) (n : ℕ) (m : Makeable rings b n) where
+  pub makeable-from : fromOf n < length b
+  makeable-from = omega (arith, m .from-low)
+
+  pub makeable-to : toOf n < length b
+  makeable-to = omega (arith, m .to-low)
+
+  pub makeable-removed : Removed (slide b (fromOf n) (toOf n)) (removedOf n)
+  makeable-removed = go (m .removed)
+    where
+      go : (removedOf n ≡ noRemoval) ⊎ ((removedOf n < 8 * rings) × (getD b (removedOf n) 0 ≡ 2)) → Removed (slide b (fromOf n) (toOf n)) (removedOf n)
+      go (inl e) = inl e
+      go (inr h) = inr (
+        omega (arith, h .0, slide-length b (fromOf n) (toOf n)),
+        omega (arith, h .0),
+        opposing-slid b (fromOf n) (toOf n) makeable-from makeable-to (m .own) (m .vacant) (removedOf n) (h .1),
+      )
+
+  pub makeable-leads : Leads b (afterPly b n) (removedOf n)
+  makeable-leads =
+      rw (after-parts b n (fromOf n) (toOf n) (removedOf n) record { from-is = refl; to-is = refl; removed-is = refl })
+      (exchanged b (remove (slide b (fromOf n) (toOf n)) (removedOf n)) (removedOf n)
+      (removed-before b (fromOf n) (toOf n) (removedOf n) makeable-from makeable-to (m .own) (m .vacant) v makeable-removed))
+
+pub ply-leads : (rule : Rule) → TakesOpponent rule → (rings : ℕ) → rings ≤ 3 → (b : List ℕ) → Values b → length b ≡ 8 * rings → (n : ℕ)
+    → List·Memᴰ n (moves rule rings b) → Leads b (afterPly b n) (removedOf n)
+ply-leads rule takes rings small b v points n i = makeable-leads rings small b v points n (listed-makeable rule takes rings small b v points n i)
 
 -- a mover has two stones only by a removal from three
 pub two-stones : (b c : List ℕ) (removed : ℕ) → Leads b c removed → 3 ≤ count 2 b → count 1 c ≡ 2 → (removed < 24) × (count 2 b ≡ 3)
@@ -219,7 +287,7 @@ pub record Reached (rings k : ℕ) (b : List ℕ) : Type 0 where
   pub opponent-high : count 2 b ≤ k
 
 -- every successor of a position of a tablebase is in that tablebase, or has a mover with two stones
-pub successor-reached : (rule : ℕ → List ℕ → List ℕ) → TakesOpponent rule → (rings k : ℕ) → rings ≤ 3 → (b : List ℕ) → Reached rings k b
+pub successor-reached : (rule : Rule) → TakesOpponent rule → (rings k : ℕ) → rings ≤ 3 → (b : List ℕ) → Reached rings k b
     → 3 ≤ count 1 b → (c : List ℕ) → List·Memᴰ c (successors rule rings b) → Reached rings k c
 successor-reached rule takes rings k small b w three c m =
     let a = successor-of rule rings b c m in

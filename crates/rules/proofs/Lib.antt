@@ -1,3 +1,4 @@
+pub mod Blocked
 pub mod Boards
 pub mod Bound
 pub mod CapturesFirst

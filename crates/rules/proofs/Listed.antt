@@ -1,19 +1,19 @@
 -- A listed move, taken apart and put together: the stone, where it goes, and what it removes. Later proofs on plies go by this and not by the
 -- lists. Assumes nothing.
-use mathlib.Core.Path.{_≡_, refl, subst}
+use mathlib.Core.Path.{_≡_, refl, ap, subst}
 use mathlib.Core.Bool.{Bool, true, false, not, _||_}
-use mathlib.Core.List.{List, [], _∷_, map, List·Memᴰ, List·Memᴰ·eq-of-singleton}
+use mathlib.Core.List.{List, [], _∷_, map, List·Memᴰ, List·Memᴰ·not-nil, List·Memᴰ·eq-of-singleton}
 use mathlib.Core.Logic.{_⊎_, inl, inr, ⊎-elim}
 use Prim.Native.Nat.{ℕ, _*_, _<_}
 use lib.Dec.{eqb}
 use lib.ListN.{getD}
-use borrow.Author.Tests.{eqb-true, eq-eqb}
+use borrow.Author.Tests.{eqb-true, eqb-false, eq-eqb, ne-eqb}
 use Rattle.lists.specs.Lists.{each, orElse}
 use Rattle.lists.proofs.Members.{keep-member, member-keep, each-member, member-each, map-member, member-map, orElse-cases}
 use Rattle.geometry.specs.Geometry.{points, adjoin}
 use Rattle.board.specs.Board.{count}
 use Rattle.geometry.proofs.Geometry.{point-low, low-point}
-use Rattle.rules.specs.Ply.{holds, holding, inMill, destinations, slide, unshielded, removable, noRemoval, removals, moveNumber, stoneMoves, moves, afterPly, successors}
+use Rattle.rules.specs.Ply.{Rule, holds, holding, inMill, destinations, slide, unshielded, ifAllShielded, removable, noRemoval, removals, moveNumber, stoneMoves, moves, afterPly, successors}
 
 module _ (rings : ℕ) (b : List ℕ) (v p : ℕ) where
   pub holding-is : List·Memᴰ p (holding rings b v) → (p < 8 * rings) × (getD b p 0 ≡ v)
@@ -42,7 +42,7 @@ unfolding destinations
 of-destination rings b from to h v r = member-keep (λ q. eqb (count 1 b) 3 || adjoin from q) (holding rings b 0) (is-holding rings b 0 to h v) r
 
 -- what makes a move a listed one
-pub record Move (rule : ℕ → List ℕ → List ℕ) (rings : ℕ) (b : List ℕ) (from to removed : ℕ) : Type 0 where
+pub record Move (rule : Rule) (rings : ℕ) (b : List ℕ) (from to removed : ℕ) : Type 0 where
   pub from-low : from < 8 * rings
   pub to-low : to < 8 * rings
   pub own : getD b from 0 ≡ 1
@@ -51,14 +51,14 @@ pub record Move (rule : ℕ → List ℕ → List ℕ) (rings : ℕ) (b : List �
   pub removal : List·Memᴰ removed (removals rule rings (slide b from to) to)
 
 -- a listed move with its number
-pub record Listed (rule : ℕ → List ℕ → List ℕ) (rings : ℕ) (b : List ℕ) (n : ℕ) : Type 0 where
+pub record Listed (rule : Rule) (rings : ℕ) (b : List ℕ) (n : ℕ) : Type 0 where
   pub from : ℕ
   pub to : ℕ
   pub removed : ℕ
   pub number : n ≡ moveNumber from to removed
   pub move : Move rule rings b from to removed
 
-module _ (rule : ℕ → List ℕ → List ℕ) (rings : ℕ) (b : List ℕ) where
+module _ (rule : Rule) (rings : ℕ) (b : List ℕ) where
   pub move-of : (n : ℕ) → List·Memᴰ n (moves rule rings b) → Listed rule rings b n
   unfolding moves
   move-of n m =
@@ -121,10 +121,10 @@ module _ (rule : ℕ → List ℕ → List ℕ) (rings : ℕ) (b : List ℕ) whe
   of-successor n m = member-map (λ n. afterPly b n) (moves rule rings b) m
 
 -- a rule of removal names opposing stones on the board
-abbrev pub TakesOpponent : (ℕ → List ℕ → List ℕ) → Type 0
+abbrev pub TakesOpponent : Rule → Type 0
 TakesOpponent rule = (rings : ℕ) (b : List ℕ) (r : ℕ) → List·Memᴰ r (rule rings b) → (r < 8 * rings) × (getD b r 0 ≡ 2)
 
--- who stands outside any mill, and who may be removed by document 01's rule
+-- who stands outside any mill
 pub unshielded-is : (rings : ℕ) (b : List ℕ) (r : ℕ) → List·Memᴰ r (unshielded rings b)
     → List·Memᴰ r (holding rings b 2) × (not (inMill rings (holds b 2) r) ≡ true)
 unfolding unshielded
@@ -135,12 +135,37 @@ pub is-unshielded : (rings : ℕ) (b : List ℕ) (r : ℕ) → List·Memᴰ r (h
 unfolding unshielded
 is-unshielded rings b r m e = member-keep (λ p. not (inMill rings (holds b 2) p)) (holding rings b 2) m e
 
-pub removable-are : (rings : ℕ) (b : List ℕ) → removable rings b ≡ orElse (unshielded rings b) (holding rings b 2)
-unfolding removable
-removable-are rings b = refl
+-- who may be removed by the rule of an edition
+module _ (edition rings : ℕ) (b : List ℕ) where
+  pub removable-are : removable edition rings b ≡ orElse (unshielded rings b) (ifAllShielded edition rings b)
+  unfolding removable
+  removable-are = refl
+
+  -- if all stand in mills: none under edition 2, and any under another
+  pub shielded-none : edition ≡ 2 → ifAllShielded edition rings b ≡ []
+  unfolding ifAllShielded
+  shielded-none e = ap (λ (t : Bool). elim t as (λ c. List ℕ) [ true ↦ [] | false ↦ holding rings b 2 ]) (eq-eqb edition 2 e)
+
+  pub shielded-any : (edition ≡ 2 → ⊥) → ifAllShielded edition rings b ≡ holding rings b 2
+  unfolding ifAllShielded
+  shielded-any n = ap (λ (t : Bool). elim t as (λ c. List ℕ) [ true ↦ [] | false ↦ holding rings b 2 ]) (ne-eqb edition 2 n)
+
+  pub shielded-cases : (ifAllShielded edition rings b ≡ []) ⊎ (ifAllShielded edition rings b ≡ holding rings b 2)
+  shielded-cases = go (eqb edition 2) refl
+    where
+      go : (t : Bool) → eqb edition 2 ≡ t → (ifAllShielded edition rings b ≡ []) ⊎ (ifAllShielded edition rings b ≡ holding rings b 2)
+      go true e = inl (shielded-none (eqb-true edition 2 e))
+      go false e = inr (shielded-any (eqb-false edition 2 e))
+
+  pub shielded-holding : (r : ℕ) → List·Memᴰ r (ifAllShielded edition rings b) → List·Memᴰ r (holding rings b 2)
+  shielded-holding r m = go shielded-cases
+    where
+      go : (ifAllShielded edition rings b ≡ []) ⊎ (ifAllShielded edition rings b ≡ holding rings b 2) → List·Memᴰ r (holding rings b 2)
+      go (inl e) = absurd (List·Memᴰ·not-nil (subst (λ (l : List ℕ). List·Memᴰ r l) e m))
+      go (inr e) = subst (λ (l : List ℕ). List·Memᴰ r l) e m
 
 -- they are opposing stones
-pub removable-takes : TakesOpponent (λ rings b. removable rings b)
-removable-takes rings b r m =
-    ⊎-elim (λ k. holding-is rings b 2 r (unshielded-is rings b r k .0)) (λ k. holding-is rings b 2 r k)
-    (orElse-cases (unshielded rings b) (holding rings b 2) (subst (λ (l : List ℕ). List·Memᴰ r l) (removable-are rings b) m))
+pub removable-takes : (edition : ℕ) → TakesOpponent (removable edition)
+removable-takes edition rings b r m =
+    ⊎-elim (λ k. holding-is rings b 2 r (unshielded-is rings b r k .0)) (λ k. holding-is rings b 2 r (shielded-holding edition rings b r k))
+    (orElse-cases (unshielded rings b) (ifAllShielded edition rings b) (subst (λ (l : List ℕ). List·Memᴰ r l) (removable-are edition rings b) m))

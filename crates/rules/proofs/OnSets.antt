@@ -1,7 +1,7 @@
 -- The definitions of a ply on a board's sets: where the stones are, what a slide leaves, who may be removed and where a stone may go. The functions
 -- work on these. Assumes nothing.
 use mathlib.Core.Path.{_≡_, refl, sym, ap, ap₂, subst, _∙_}
-use mathlib.Core.Bool.{true, false, not, _||_}
+use mathlib.Core.Bool.{Bool, true, false, not, _||_}
 use mathlib.Core.List.{List, [], _∷_, map, List·Memᴰ}
 use mathlib.Core.Logic.{_⊎_, inl, inr}
 use Prim.Native.Nat.{ℕ, zero, suc, _+_, _*_, _^_, _≤_, _<_, min}
@@ -23,7 +23,7 @@ use Rattle.board.specs.Board.{Values, count, digit, setOf}
 use Rattle.geometry.proofs.Geometry.{points-are, low-point, neighbours-are}
 use Rattle.board.proofs.Sides.{set-lt, bit-set, set-none, set-cons}
 use Rattle.board.proofs.Stores.{has-set, elements-set, set-with, set-without}
-use Rattle.rules.specs.Ply.{holds, holding, inMill, destinations, slide, unshielded, removable, noRemoval, removals, exchange}
+use Rattle.rules.specs.Ply.{Rule, holds, holding, inMill, destinations, slide, unshielded, ifAllShielded, removable, noRemoval, removals, exchange}
 use Rattle.rules.proofs.Listed.{destination-vacant, removals-without, removals-with, removable-are}
 use Rattle.rules.proofs.Leads.{slide-length}
 use Rattle.rules.proofs.Mills.{in-mill-same}
@@ -61,9 +61,21 @@ unshielded-set rings small b whole =
     (λ p m. ap not (in-mill-set rings small b whole 2 p))
     ∙ ap (keep (λ p. not (inMill rings (λ q. has (setOf 2 b) q) p))) (holding-set rings small b whole 2)
 
-pub removable-set : (rings : ℕ) → rings ≤ 3 → (b : List ℕ) → length b ≡ 8 * rings
-    → removable rings b ≡ orElse (unshieldedOf rings (setOf 2 b)) (elements 32 (setOf 2 b))
-removable-set rings small b whole = removable-are rings b ∙ ap₂ orElse (unshielded-set rings small b whole) (holding-set rings small b whole 2)
+-- the stones that may be removed if all stand in mills
+abbrev pub shieldedOf : ℕ → ℕ → List ℕ
+shieldedOf edition side = elim (eqb edition 2) [ true ↦ [] | false ↦ elements 32 side ]
+
+module _ (edition rings : ℕ) (small : rings ≤ 3) (b : List ℕ) (whole : length b ≡ 8 * rings) where
+  shielded-set : ifAllShielded edition rings b ≡ shieldedOf edition (setOf 2 b)
+  unfolding ifAllShielded
+  shielded-set = go (eqb edition 2)
+    where
+      go : (t : Bool) → _≡_ {A = List ℕ} (elim t [ true ↦ [] | false ↦ holding rings b 2 ]) (elim t [ true ↦ [] | false ↦ elements 32 (setOf 2 b) ])
+      go true = refl
+      go false = holding-set rings small b whole 2
+
+  pub removable-set : removable edition rings b ≡ orElse (unshieldedOf rings (setOf 2 b)) (shieldedOf edition (setOf 2 b))
+  removable-set = removable-are edition rings b ∙ ap₂ orElse (unshielded-set rings small b whole) shielded-set
 
 -- a slide moves one point of the mover's set, and the opponent's set stays
 module _ (b : List ℕ) (from to : ℕ) (hf : from < length b) (ht : to < length b) where
@@ -129,7 +141,7 @@ module _ (rings : ℕ) (small : rings ≤ 3) (b : List ℕ) (whole : length b �
       go p h (inr t) v x = rw (t, vacant p t, near p h t)
 
 -- what a slide may remove
-module _ (rule : ℕ → List ℕ → List ℕ) (rings : ℕ) (b : List ℕ) (to : ℕ) where
+module _ (rule : Rule) (rings : ℕ) (b : List ℕ) (to : ℕ) where
   pub removals-open : inMill rings (holds b 1) to ≡ false → setFrom (removals rule rings b to) ≡ 2 ^ 31
   removals-open e = ap setFrom (removals-without rule rings b to e) ∙ from-one noRemoval
 
@@ -151,11 +163,11 @@ module _ (rings : ℕ) (small : rings ≤ 3) (b : List ℕ) (whole : length b �
   pub slide-whole : length (slide b from to) ≡ 8 * rings
   slide-whole = slide-length b from to ∙ whole
 
-  pub removable-slide : removable rings (slide b from to) ≡ removable rings b
-  removable-slide =
-      removable-set rings small (slide b from to) slide-whole
-      ∙ ap (λ (s : ℕ). orElse (unshieldedOf rings s) (elements 32 s)) (slide-opponent b from to lf lt own vacant)
-      ∙ sym (removable-set rings small b whole)
+  pub removable-slide : (edition : ℕ) → removable edition rings (slide b from to) ≡ removable edition rings b
+  removable-slide edition =
+      removable-set edition rings small (slide b from to) slide-whole
+      ∙ ap (λ (s : ℕ). orElse (unshieldedOf rings s) (shieldedOf edition s)) (slide-opponent b from to lf lt own vacant)
+      ∙ sym (removable-set edition rings small b whole)
 
   pub in-mill-slide : inMill rings (holds (slide b from to) 1) to ≡ inMill rings (λ q. has (with (without (setOf 1 b) from) to) q) to
   in-mill-slide =

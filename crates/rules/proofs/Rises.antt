@@ -10,10 +10,10 @@ use Rattle.lists.proofs.Members.{each-member, map-member}
 use Rattle.lists.proofs.Rises.{rising-range, rising-keep, rising-else, rising-add, rising-each}
 use Rattle.geometry.specs.Geometry.{points}
 use Rattle.geometry.proofs.Geometry.{points-are}
-use Rattle.rules.specs.Ply.{holds, holding, inMill, destinations, slide, unshielded, removable, noRemoval, removals, slideMoves, stoneMoves, moves}
-use Rattle.rules.proofs.Listed.{destination-vacant, removal-cases, TakesOpponent}
+use Rattle.rules.specs.Ply.{Rule, holds, holding, inMill, destinations, slide, unshielded, ifAllShielded, removable, noRemoval, removals, slideMoves, stoneMoves, moves}
+use Rattle.rules.proofs.Listed.{destination-vacant, removal-cases, removable-are, shielded-cases, TakesOpponent}
 
-abbrev pub RisingRule : (ℕ → List ℕ → List ℕ) → Type 0
+abbrev pub RisingRule : Rule → Type 0
 RisingRule rule = (rings : ℕ) (b : List ℕ) → Rising (rule rings b)
 
 pub holding-rising : (rings : ℕ) (b : List ℕ) (v : ℕ) → Rising (holding rings b v)
@@ -29,11 +29,19 @@ unshielded-rising : RisingRule (λ rings b. unshielded rings b)
 unfolding unshielded
 unshielded-rising rings b = rising-keep _ (holding rings b 2) (holding-rising rings b 2)
 
-pub removable-rising : RisingRule (λ rings b. removable rings b)
-unfolding removable
-removable-rising rings b = rising-else (unshielded rings b) (holding rings b 2) (unshielded-rising rings b) (holding-rising rings b 2)
+shielded-rising : (edition : ℕ) → RisingRule (ifAllShielded edition)
+shielded-rising edition rings b = go (shielded-cases edition rings b)
+  where
+    go : (ifAllShielded edition rings b ≡ []) ⊎ (ifAllShielded edition rings b ≡ holding rings b 2) → Rising (ifAllShielded edition rings b)
+    go (inl e) = rw e tt
+    go (inr e) = rw e (holding-rising rings b 2)
 
-module _ (rule : ℕ → List ℕ → List ℕ) (takes : TakesOpponent rule) (rises : RisingRule rule) (rings : ℕ) (small : rings ≤ 3) where
+pub removable-rising : (edition : ℕ) → RisingRule (removable edition)
+removable-rising edition rings b =
+    subst Rising (sym (removable-are edition rings b))
+    (rising-else (unshielded rings b) (ifAllShielded edition rings b) (unshielded-rising rings b) (shielded-rising edition rings b))
+
+module _ (rule : Rule) (takes : TakesOpponent rule) (rises : RisingRule rule) (rings : ℕ) (small : rings ≤ 3) where
   pub removals-rising : (b : List ℕ) (to : ℕ) → Rising (removals rule rings b to)
   unfolding removals
   removals-rising b to = go (inMill rings (holds b 1) to) refl

@@ -1,3 +1,4 @@
 pub mod MoveList
 pub mod Ply
 pub mod Predecessors
+pub mod Inner

@@ -1,11 +1,11 @@
--- The order in which moves are listed (document 02, A2): captures first. What only asks whether a move is legal goes by `legalMoves`, which has the
+-- The order in which moves are listed (document 02, A2): captures first. What only asks whether a move is legal goes by `moves`, which has the
 -- same members. Assumes nothing.
 use mathlib.Core.Bool.{Bool, not}
 use mathlib.Core.List.{List, _++_}
 use Prim.Native.Nat.{ℕ}
 use lib.Dec.{eqb}
 use Rattle.lists.specs.Lists.{keep}
-use Rattle.rules.specs.Ply.{noRemoval, removedOf, legalMoves}
+use Rattle.rules.specs.Ply.{Rule, noRemoval, removedOf, moves}
 
 -- a move "with a removal"; a mill that removes nothing is none
 unfoldable pub isCapture : ℕ → Bool
@@ -24,5 +24,5 @@ unfoldable pub capturesFirst : List ℕ → List ℕ
 capturesFirst ms = captures ms ++ others ms
 
 -- the move list of a board
-abbrev pub listedMoves : ℕ → List ℕ → List ℕ
-listedMoves rings b = capturesFirst (legalMoves rings b)
+abbrev pub listedMoves : Rule → ℕ → List ℕ → List ℕ
+listedMoves rule rings b = capturesFirst (moves rule rings b)

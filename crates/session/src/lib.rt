@@ -6,7 +6,7 @@ ghost use Rattle.morris.specs.Calls.{FillCall};
 ghost use Rattle.answers.specs.Answers.{solved};
 ghost use Rattle.text.specs.Inner.Room.{mostBytes};
 ghost use Rattle.keeping.specs.Kept.{mostKept};
-ghost use Rattle.fields.specs.Fields.{largestCount};
+ghost use Rattle.fields.specs.Fields.{largestCount, deskEdition};
 use morris::Solved;
 
 // The limit of the fill, in plies.
@@ -14,9 +14,15 @@ const DESK_LIMIT: u32 = 2000;
 
 // The one-ring tablebase is filled.
 fn fill_tablebase(tablebase: &mut [u16]) -> Solved
-    ensures { λ r. ⌜ FillCall 1 largestCount 2000 (now (tablebase .entry)) (now (tablebase .exit)) (solved r) ⌝ }
+    ensures { λ r. ⌜ FillCall 1 deskEdition largestCount 2000 (now (tablebase .entry)) (now (tablebase .exit)) (solved r) ⌝ }
 {
-    morris::fill(1, fields::LARGEST_COUNT, DESK_LIMIT, tablebase)
+    morris::fill(
+        1,
+        fields::DESK_EDITION,
+        fields::LARGEST_COUNT,
+        DESK_LIMIT,
+        tablebase,
+    )
 }
 
 // The session in lent buffers. Were the fill turned back, every entry would be void, and a line would show `-` for it.

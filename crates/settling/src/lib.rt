@@ -2,6 +2,7 @@
 ghost use mathlib.Core.Path.{_≡_};
 ghost use Prim.Native.Nat.{_+_, _-_, _≤_};
 ghost use lib.ListN.{length};
+ghost use Rattle.rules.specs.Ply.{removable};
 ghost use Rattle.finding.specs.Inner.Finding.{First};
 ghost use Rattle.probing.specs.Inner.Conditions.{Lent};
 ghost use Rattle.settling.specs.Inner.Settled.{Sweeping, AtMark, isMarked, judgedClass};
@@ -12,8 +13,9 @@ use seeking::Cursor;
 use tables::Starts;
 use tables::Table;
 
-// A level over a table; the table of its successors without a removal starts at `same`.
+// A level over a table under an edition; the table of its successors without a removal starts at `same`.
 pub struct Sweep {
+    pub edition: u8,
     pub table: Table,
     pub same: usize,
     pub level: u16,
@@ -32,7 +34,8 @@ pub fn judge_place(
     requires { ⌜ Lent (maps .rings) (now binomials) (now masks) ⌝ }
     requires { ⌜ Sweeping (now images) (length (now tablebase)) maps sweep × AtMark (maps .rings) (sweep .table) (now tablebase) at ⌝ }
     ensures { λ _. ⌜ now (tablebase .exit)
-        ≡ judgedClass (maps .rings) (sweep .table) (sweep .same) (sweep .level) (maps .count) (now (tablebase .entry)) (at .rank) ⌝ }
+        ≡ judgedClass (removable (sweep .edition)) (maps .rings) (sweep .table) (sweep .same) (sweep .level) (maps .count)
+        (now (tablebase .entry)) (at .rank) ⌝ }
 {
     let table = sweep.table;
     let own = table.own;
@@ -43,6 +46,7 @@ pub fn judge_place(
         binomials,
         masks,
         maps.rings,
+        sweep.edition,
         Starts {
             same: sweep.same,
             fewer: lower.start,

@@ -2,6 +2,7 @@
 ghost use mathlib.Core.Path.{_≡_};
 ghost use Prim.Native.Nat.{_+_};
 ghost use lib.ListN.{length};
+ghost use Rattle.rules.specs.Ply.{removable};
 ghost use Rattle.invariance.specs.Symmetric.{LowerSymmetric};
 ghost use Rattle.invariance.specs.Inner.Used.{Used};
 ghost use Rattle.probing.specs.Inner.Conditions.{Lent};
@@ -32,7 +33,8 @@ pub fn solve_pair(
     requires { ⌜ Lent (bounds .rings) (now binomials) (now masks) ⌝ }
     requires { ⌜ PairGiven (now images) (now tablebase) bounds counts × Used maps
         × LowerSymmetric maps (bounds .rings) (bounds .k) (counts .mover) (counts .opponent) (now tablebase) ⌝ }
-    ensures { λ deep. ⌜ PairFill (bounds .rings) (bounds .k) (counts .mover) (counts .opponent) (bounds .limit) (now (tablebase .entry))
+    ensures { λ deep. ⌜ PairFill (removable (bounds .edition)) (bounds .rings) (bounds .k) (counts .mover) (counts .opponent) (bounds .limit)
+        (now (tablebase .entry))
         (now (tablebase .exit)) deep ⌝ }
 {
     let points = 8 * bounds.rings;
@@ -75,7 +77,7 @@ fn solve_row(
     requires { ⌜ Lent (bounds .rings) (now binomials) (now masks) ⌝ }
     requires { ⌜ RowGiven (now images) (now tablebase) bounds maps m ⌝ }
     ensures { λ deep. ⌜ (length (now (tablebase .exit)) ≡ length (now (tablebase .entry)))
-        × PairsFilled (bounds .rings) (bounds .k) (bounds .limit) (m + 1) 3 (now (tablebase .exit)) deep ⌝ }
+        × PairsFilled (removable (bounds .edition)) (bounds .rings) (bounds .k) (bounds .limit) (m + 1) 3 (now (tablebase .exit)) deep ⌝ }
 {
     let mut o = 3;
     while o <= m {
@@ -108,7 +110,8 @@ pub fn solve_all(
 ) -> bool
     requires { ⌜ Lent (bounds .rings) (now binomials) (now masks) ⌝ }
     requires { ⌜ AllGiven (now images) (length (now tablebase)) bounds ⌝ }
-    ensures { λ deep. ⌜ WholeFill (bounds .rings) (bounds .k) (bounds .limit) (now (tablebase .entry)) (now (tablebase .exit)) deep ⌝ }
+    ensures { λ deep. ⌜ WholeFill (removable (bounds .edition)) (bounds .rings) (bounds .k) (bounds .limit) (now (tablebase .entry))
+        (now (tablebase .exit)) deep ⌝ }
 {
     let maps = all_maps(bounds.rings);
     let k = bounds.k;

@@ -8,20 +8,21 @@ use Rattle.geometry.specs.Geometry.{points, follows, inward, adjoin, ringMills,
 use Rattle.sizes.specs.Size.{size}
 use Rattle.ranking.specs.Rank.{readingRank, rank}
 use Rattle.layout.specs.Layout.{tables, tablebaseLength}
-use Rattle.rules.specs.Ply.{holding, inMill, destinations, slide, unshielded, removable, removals, moves, remove, exchange, afterPly, successors}
+use Rattle.rules.specs.Ply.{holding, inMill, destinations, slide, unshielded, ifAllShielded, removable, removals, moves, remove, exchange, afterPly, successors}
 use Rattle.game.specs.Game.{wonBy, lostBy, won, lost, ended, depthIs, voidEntry}
 use Rattle.game.proofs.Computed.{entry-is}
-use Rattle.outcomes.specs.Whole.{next, wholeSeed, TrueEntry}
+use Rattle.outcomes.specs.Whole.{wholeSeed, TrueEntry}
 use Rattle.refusals.specs.Conditions.{valueWrong}
 use Rattle.rank_calls.specs.RankCall.{rankCall}
 use Rattle.starred.specs.Cases.{entryIs, caseHolds, starred}
 
 pub starred-hold : all (λ c. caseHolds c) starred ≡ true
 unfolding caseHolds rankCall valueWrong rank readingRank size tables tablebaseLength depthIs ended won lost wonBy lostBy wholeSeed successors afterPly slide remove exchange moves
-    holding inMill destinations unshielded removable removals points follows inward adjoin ringMills crossMills mills
+    holding inMill destinations unshielded ifAllShielded removable removals points follows inward adjoin ringMills crossMills mills
 starred-hold = refl
 
 -- a case of an entry states the true entry
-pub entry-case : (rings : ℕ) (reading : List ℕ) (e : ℕ) → caseHolds (entryIs rings reading e) ≡ true → e < voidEntry → TrueEntry rings (reverse reading) e
+pub entry-case : (rings : ℕ) (reading : List ℕ) (e : ℕ) → caseHolds (entryIs rings reading e) ≡ true → e < voidEntry
+    → TrueEntry (removable 1) rings (reverse reading) e
 unfolding caseHolds
-entry-case rings reading e h l = entry-is (next rings) (λ b. wholeSeed b) e (reverse reading) h l
+entry-case rings reading e h l = entry-is (successors (removable 1) rings) (λ b. wholeSeed b) e (reverse reading) h l

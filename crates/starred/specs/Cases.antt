@@ -4,8 +4,9 @@ use mathlib.Core.List.{List, [], _∷_, reverse}
 use Prim.Native.Nat.{ℕ, _*_}
 use lib.Dec.{eqb}
 use Rattle.sizes.specs.Size.{size}
+use Rattle.rules.specs.Ply.{removable, successors}
 use Rattle.game.specs.Game.{depthIs}
-use Rattle.outcomes.specs.Whole.{next, wholeSeed}
+use Rattle.outcomes.specs.Whole.{wholeSeed}
 use Rattle.layout.specs.Layout.{tablebaseLength}
 use Rattle.refusals.specs.Refusals.{refusal}
 use Rattle.refusals.specs.Conditions.{rankPicks}
@@ -15,7 +16,7 @@ use Rattle.rank_calls.specs.RankCall.{rankCall}
 pub data Case : Type 0 where
   -- a board, read from its highest point down, has this rank
   rankIs : (rings : ℕ) (reading : List ℕ) (rank : ℕ) → Case
-  -- its entry in the whole game is this
+  -- its entry in the whole game, under edition 1, is this
   entryIs : (rings : ℕ) (reading : List ℕ) (entry : ℕ) → Case
   -- a rank of table (m, o) is refused with this number
   refusalIs : (rings m o rank number : ℕ) → Case
@@ -26,7 +27,7 @@ pub data Case : Type 0 where
 
 unfoldable pub caseHolds : Case → Bool
 caseHolds (rankIs rings reading r) = eqb (number (rankCall rings (reverse reading))) 0 && eqb (value (rankCall rings (reverse reading)) 0) r
-caseHolds (entryIs rings reading e) = depthIs (next rings) (λ b. wholeSeed b) e (reverse reading)
+caseHolds (entryIs rings reading e) = depthIs (successors (removable 1) rings) (λ b. wholeSeed b) e (reverse reading)
 caseHolds (refusalIs rings m o r n) = eqb (refusal (rankPicks rings m o r (8 * rings))) n
 caseHolds (sizeIs rings m o n) = eqb (size (8 * rings) m o) n
 caseHolds (lengthIs rings k n) = eqb (tablebaseLength (8 * rings) k) n

@@ -4,6 +4,7 @@ ghost use mathlib.Core.Path.{_≡_};
 ghost use Prim.Native.Nat.{_*_, _<_};
 ghost use lib.ListN.{length};
 ghost use Rattle.sizes.specs.Size.{size};
+ghost use Rattle.rules.specs.Ply.{removable};
 ghost use Rattle.classing.specs.Inner.Classes.{leastOfClass};
 ghost use Rattle.probing.specs.Inner.Conditions.{Lent};
 ghost use Rattle.settling.specs.Inner.Settled.{Sweeping, judgedFirst};
@@ -26,7 +27,7 @@ fn judge_marked(
     requires { ⌜ Lent (maps .rings) (now binomials) (now masks) ⌝ }
     requires { ⌜ Sweeping (now images) (length (now tablebase)) maps sweep ⌝ }
     ensures { λ _. ⌜ now (tablebase .exit)
-        ≡ judgedFirst (maps .rings) (sweep .table) (sweep .same) (sweep .level) (maps .count) (now (tablebase .entry))
+        ≡ judgedFirst (removable (sweep .edition)) (maps .rings) (sweep .table) (sweep .same) (sweep .level) (maps .count) (now (tablebase .entry))
         (size (8 * maps .rings) (sweep .table .mover) (sweep .table .opponent)) ⌝ }
 {
     let table = sweep.table;
@@ -53,8 +54,8 @@ pub fn level_table(
     requires { ⌜ Lent (maps .rings) (now binomials) (now masks) ⌝ }
     requires { ⌜ Sweeping (now images) (length (now tablebase)) maps sweep × CountsFit (sweep .table) × (0 < sweep .level) ⌝ }
     ensures { λ _. ⌜ now (tablebase .exit)
-        ≡ levelByClasses (maps .rings) (sweep .table) (sweep .same) (sweep .level) (maps .count) (leastOfClass (maps .rings) (maps .count))
-        (now (tablebase .entry)) ⌝ }
+        ≡ levelByClasses (removable (sweep .edition)) (maps .rings) (sweep .table) (sweep .same) (sweep .level) (maps .count)
+        (leastOfClass (maps .rings) (maps .count)) (now (tablebase .entry)) ⌝ }
 {
     let table = sweep.table;
     let own = table.own;

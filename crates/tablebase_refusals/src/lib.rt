@@ -69,12 +69,19 @@ fn of_largest(binomials: &[u32; 625], rings: u8, k: u8, above: bool, length: usi
     0
 }
 
-// The first refusal that rings, a board, K and a tablebase of so many entries meet, or 0.
-pub fn of_tablebase(binomials: &[u32; 625], rings: u8, board: &[u8], k: u8, length: usize) -> u8
+// The first refusal that rings, an edition, a board, K and a tablebase of so many entries meet, or 0.
+pub fn of_tablebase(
+    binomials: &[u32; 625],
+    rings: u8,
+    edition: u8,
+    board: &[u8],
+    k: u8,
+    length: usize,
+) -> u8
     requires { ⌜ BinomialTable (now binomials) ⌝ }
-    ensures { λ r. ⌜ r ≡ refusal (tablebasePicks rings (now (board .entry)) k length) ⌝ }
+    ensures { λ r. ⌜ r ≡ refusal (tablebasePicks rings edition (now (board .entry)) k length) ⌝ }
 {
-    let refusal = board_refusals::of_board(rings, board);
+    let refusal = board_refusals::of_ruled(rings, edition, board);
     if refusal != 0 {
         return refusal;
     }
@@ -98,12 +105,20 @@ fn of_limit(binomials: &[u32; 625], rings: u8, k: u8, above: bool, limit: u32, l
 }
 
 // The first refusal that a call to fill a tablebase meets, or 0.
-pub fn of_fill(binomials: &[u32; 625], rings: u8, k: u8, limit: u32, length: usize) -> u8
+pub fn of_fill(
+    binomials: &[u32; 625],
+    rings: u8,
+    edition: u8,
+    k: u8,
+    limit: u32,
+    length: usize,
+) -> u8
     requires { ⌜ BinomialTable (now binomials) ⌝ }
-    ensures { λ r. ⌜ r ≡ refusal (fillPicks rings k limit length) ⌝ }
+    ensures { λ r. ⌜ r ≡ refusal (fillPicks rings edition k limit length) ⌝ }
 {
-    if board_refusals::rings_wrong(rings) {
-        return refusals::RINGS;
+    let refusal = board_refusals::of_edition(rings, edition);
+    if refusal != 0 {
+        return refusal;
     }
     of_limit(binomials, rings, k, false, limit, length)
 }
@@ -112,6 +127,7 @@ pub fn of_fill(binomials: &[u32; 625], rings: u8, k: u8, limit: u32, length: usi
 pub fn of_pair(
     binomials: &[u32; 625],
     rings: u8,
+    edition: u8,
     mover: u8,
     opponent: u8,
     k: u8,
@@ -119,8 +135,12 @@ pub fn of_pair(
     length: usize,
 ) -> u8
     requires { ⌜ BinomialTable (now binomials) ⌝ }
-    ensures { λ r. ⌜ r ≡ refusal (tablesPicks rings mover opponent k limit length) ⌝ }
+    ensures { λ r. ⌜ r ≡ refusal (tablesPicks rings edition mover opponent k limit length) ⌝ }
 {
+    let ruled = board_refusals::of_edition(rings, edition);
+    if ruled != 0 {
+        return ruled;
+    }
     let refusal = board_refusals::of_stones(rings, mover, opponent);
     if refusal != 0 {
         return refusal;

@@ -1,13 +1,13 @@
 -- A question to the successors of a position: whether an entry is asked for; and the moves that are looked at. Assumes nothing.
 use mathlib.Core.Path.{_≡_}
-use mathlib.Core.Bool.{Bool, true}
+use mathlib.Core.Bool.{Bool}
 use mathlib.Core.List.{List}
 use Prim.Native.Nat.{ℕ, _+_, _*_, _<_}
-use Rattle.lists.specs.Lists.{member}
 use Rattle.sets.specs.Sets.{bit, setFrom}
 use Rattle.board.specs.declared.Position.{Position}
 use Rattle.board.specs.Board.{count, boardOf}
-use Rattle.rules.specs.Ply.{destinations, legalMoves}
+use Rattle.rules.specs.Ply.{destinations}
+use Rattle.rules.specs.Inner.Making.{Makeable}
 use Rattle.masks.specs.Inner.Masks.{Masks}
 use Rattle.probing.specs.Inner.Probes.{probe}
 use Rattle.asking.specs.declared.ranges.Question.{Question}
@@ -23,7 +23,7 @@ pub record Movable (rings : ℕ) (lent : List ℕ) (position : Position) (stone 
 -- the moves of a slide, by what they remove
 pub record Removing (rings : ℕ) (position : Position) (slide removals : ℕ) : Type 0 where
   pub small : slide + 31 < 65536
-  pub listed : (r : ℕ) → bit removals r ≡ 1 → member (slide + r) (legalMoves rings (boardOf (8 * rings) position)) ≡ true
+  pub makeable : (r : ℕ) → bit removals r ≡ 1 → Makeable rings (boardOf (8 * rings) position) (slide + r)
 
 -- the entry of c, a successor of b, is asked for
 abbrev pub entryAsked : List ℕ → Question → List ℕ → List ℕ → Bool

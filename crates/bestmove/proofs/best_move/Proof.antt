@@ -1,24 +1,33 @@
 -- `bestmove::best_move` meets its contract: the part of the list that is lent holds the moves. Assumes nothing.
-use mathlib.Core.Path.{_≡_, sym, ap, ap₂, _∙_}
-use mathlib.Core.List.{List}
+use mathlib.Core.Path.{_≡_, sym, ap, ap₂, subst, _∙_}
+use mathlib.Core.List.{List, map}
 use Prim.Native.Nat.{ℕ, _+_, _*_, _≤_}
 use native.Mathlib.Omega.{arith}
 use lib.ListN.{length, take, replicate}
 use lib.Seq.{sets, length-sets}
+use borrow.Author.Tests.{eqb-false}
+use Rattle.lists.proofs.Lengths.{empty-length}
 use Rattle.lists.proofs.Writing.{sets-start}
 use Rattle.board.specs.Board.{boardOf}
 use Rattle.board.proofs.Sides.{length-board, board-values}
-use Rattle.rules.specs.Ply.{legalMoves}
+use Rattle.rules.specs.Ply.{removable, moves}
 use Rattle.rules.specs.MoveList.{capturesFirst}
+use Rattle.rules.proofs.Blocked.{blocked-moves}
 use Rattle.rules.proofs.Bound.{listed-bound}
-use Rattle.rules.proofs.CapturesFirst.{listed-length, listed-total}
+use Rattle.rules.proofs.CapturesFirst.{listed-legal, listed-length, listed-total}
+use Rattle.rules.proofs.Leads.{listed-makeable}
+use Rattle.rules.proofs.Listed.{removable-takes}
+use Rattle.bestmove.specs.Best.{bestEntry, bestMove}
+use Rattle.bestmove.specs.Inner.Choosing.{Candidates}
+use Rattle.bestmove.specs.Inner.Worth.{entryBy}
+use Rattle.bestmove.proofs.MoveEntries.{moves-told}
 use borrow.Author.Needs.{needs}
 use Rattle.bestmove.proofs.best_move.Statement.{statement}
 use Rattle.bestmove.proofs.best_move.Tie as tie
 
 -- the moves, by rising number and as they are listed
 abbrev legal : tie.Start → List ℕ
-legal c = legalMoves (c .args .rings) (boardOf (8 * c .args .rings) (c .args .position))
+legal c = moves (removable (c .args .edition)) (c .args .rings) (boardOf (8 * c .args .rings) (c .args .position))
 
 abbrev listed : tie.Start → List ℕ
 listed c = capturesFirst (legal c)
@@ -30,7 +39,8 @@ enough c =
     let p = c .pre .0 .probing .placed in
     let k = c .pre .1 in
     let n : ℕ = 8 * a .rings in
-    listed-bound (a .rings) (p .small) (boardOf n (a .position)) (length-board n (a .position)) (board-values n (a .position) (p .on)) (k .mover-most) (k .opponent-least)
+    listed-bound (a .edition) (a .rings) (p .small) (boardOf n (a .position)) (length-board n (a .position)) (board-values n (a .position) (p .on))
+    (k .mover-most) (k .opponent-least)
     (k .opponent-most)
 
 -- so many moves were counted
@@ -69,16 +79,42 @@ slice-aggregate-best-of c =
     let n = m .before .before .before in
     counted n ∙ sym (ap length (filled (n .before .before) _ _ (m .list-moves .ensures) (counted n)))
 
+-- they can be made, and none leads to a void entry
+choice : (c : tie.Start) → Candidates (c .args .tablebase .now) (c .args .rings) (c .args .starts) (c .args .position) (listed c)
+choice c =
+    let a = c .args in
+    let p = c .pre .0 .probing .placed in
+    let b : List ℕ = boardOf (8 * a .rings) (a .position) in
+    let some = eqb-false (length (legal c)) 0
+    (sym (empty-length (legal c)) ∙ blocked-moves (removable (a .edition)) (a .rings) b ∙ c .pre .1 .some) in
+    record {
+      some = omega (arith, listed-length (legal c), some);
+      makeable = λ m i. listed-makeable (removable (a .edition)) (removable-takes (a .edition)) (a .rings) (p .small) b
+          (board-values (8 * a .rings) (a .position) (p .on)) (length-board (8 * a .rings) (a .position)) m (listed-legal (legal c) i);
+      told = λ m i. moves-told (removable (a .edition)) (a .tablebase .now) (a .starts .same) (a .starts .fewer) (a .rings) b (c .pre .0 .told) m
+          (listed-legal (legal c) i);
+    }
+
 best-of-requires : tie.Need-best-of-requires
 best-of-requires c κs =
     let m = c .before .before in
     let n = m .before .before .before in
     let s = n .before .before in
-    let f = filled s _ _ (m .list-moves .ensures) (counted n) in
-    (s .pre .0, (omega (arith, ap length f, listed-length (legal s), s .pre .1 .some), f))
+    let a = s .args in (
+      s .pre .0 .probing,
+      subst (Candidates (a .tablebase .now) (a .rings) (a .starts) (a .position))
+          (sym (filled s _ _ (m .list-moves .ensures) (counted n))) (choice s),
+    )
 
 returns : tie.Need-returns
-returns c = search needs
+returns c =
+    let m = c .before .before .before in
+    let n = m .before .before .before in
+    let s = n .before .before in
+    let a = s .args in
+    let f : ℕ → ℕ = λ x. entryBy (a .tablebase .now) (a .starts .same) (a .starts .fewer) (boardOf (8 * a .rings) (a .position)) x in
+    let e = filled s _ _ (m .list-moves .ensures) (counted n) in
+    (c .best-of .ensures .0 ∙ ap (bestMove f) e, c .best-of .ensures .1 ∙ ap (λ (l : List ℕ). bestEntry (map f l)) e)
 
 pub best-move-spec : {M : Type 1} → statement M
 best-move-spec =

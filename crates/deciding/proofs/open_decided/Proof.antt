@@ -1,6 +1,7 @@
 -- `deciding::open_decided` meets its contract. Assumes nothing.
 use mathlib.Core.Path.{sym, _∙_}
 use lib.ListN.{length}
+use Rattle.rules.specs.Ply.{removable}
 use Rattle.deciding.proofs.AtRank.{AtRank, at-rank, decided-at, closed-undecided, open-decided}
 use borrow.Author.Needs.{needs}
 use Rattle.deciding.proofs.open_decided.Statement.{statement}
@@ -39,15 +40,17 @@ returns : tie.Need-returns
 returns c =
     let u = c .before .before in
     let s = u .before .before .before .before in
-    open-decided (s .args .rings) (s .args .table) (s .args .same) (s .args .r) (s .args .tablebase .now)
+    open-decided (removable (s .args .edition)) (s .args .rings) (s .args .table) (s .args .same) (s .args .r) (s .args .tablebase .now)
     (sym (u .before .before .is-open .ensures) ∙ u .before .if1 .taken) (c .decided .result)
-    (c .decided .ensures ∙ decided-at (s .args .rings) (s .args .table) (s .args .same) (s .args .r) (s .args .tablebase .now)
+    (c .decided .ensures ∙ decided-at (removable (s .args .edition)) (s .args .rings) (s .args .table) (s .args .same) (s .args .r)
+    (s .args .tablebase .now)
     (length (s .args .tablebase .now)) (u .unrank .result) (found u))
 
 returns-2 : tie.Need-returns-2
 returns-2 c =
     let s = c .before .before .before in
-    closed-undecided (s .args .rings) (s .args .table) (s .args .same) (s .args .r) (s .args .tablebase .now) (sym (c .before .is-open .ensures) ∙ c .if1 .left)
+    closed-undecided (removable (s .args .edition)) (s .args .rings) (s .args .table) (s .args .same) (s .args .r) (s .args .tablebase .now)
+    (sym (c .before .is-open .ensures) ∙ c .if1 .left)
 
 pub open-decided-spec : {M : Type 1} → statement M
 open-decided-spec =

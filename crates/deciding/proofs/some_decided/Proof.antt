@@ -4,16 +4,17 @@ use Prim.Native.Nat.{ℕ, _≤_, _-_, _+_}
 use mathlib.Core.Bool.{Bool, false}
 use native.Mathlib.Decide.{ℕ-discrete}
 use native.Mathlib.Omega.{arith}
+use Rattle.rules.specs.Ply.{removable}
 use Rattle.deciding.specs.Inner.Open.{openDecided, Found}
 use Rattle.deciding.proofs.some_decided.Statement.{statement}
 use Rattle.deciding.proofs.some_decided.Tie as tie
 
 abbrev Inv-loop : tie.InvT-loop
-Inv-loop tablebase binomials masks rings table same size r₀ r =
-    (table .own .start + size ≡ table .own .end) × (r ≤ size) × Found (openDecided rings table same tablebase) r false
+Inv-loop tablebase binomials masks rings edition table same size r₀ r =
+    (table .own .start + size ≡ table .own .end) × (r ≤ size) × Found (openDecided (removable edition) rings table same tablebase) r false
 
 abbrev μ-loop : tie.MeasureT-loop
-μ-loop tablebase binomials masks rings table same size r₀ r = size - r
+μ-loop tablebase binomials masks rings edition table same size r₀ r = size - r
 
 -- one number more that does not pass
 none-more : (f : ℕ → Bool) (n : ℕ) → Found f n false → f n ≡ false → Found f (n + 1) false

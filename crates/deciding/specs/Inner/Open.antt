@@ -6,9 +6,9 @@ use Prim.Native.Nat.{ℕ, _+_, _*_, _<_}
 use lib.Dec.{eqb}
 use lib.ListN.{getD}
 use Rattle.ranking.specs.Unrank.{unrank}
+use Rattle.rules.specs.Ply.{Rule, successors}
 use Rattle.game.specs.Game.{drawEntry}
 use Rattle.game.specs.Judgement.{decided}
-use Rattle.outcomes.specs.Whole.{next}
 use Rattle.tables.specs.declared.Table.{Table}
 use Rattle.probing.specs.Inner.Probes.{probe}
 
@@ -24,9 +24,10 @@ module _ (rings : ℕ) (t : Table) (same : ℕ) where
   abbrev pub judged : List ℕ → List ℕ → ℕ
   judged tablebase b = probe tablebase same (t .lower .start) (t .opponent) b
 
-  -- an open position that its successors decide
-  unfoldable pub openDecided : List ℕ → ℕ → Bool
-  openDecided tablebase r = isOpen t tablebase r && decided (next rings) (judged tablebase) (boardAt r)
+-- an open position that its successors decide
+unfoldable pub openDecided : Rule → ℕ → Table → ℕ → List ℕ → ℕ → Bool
+openDecided rule rings t same tablebase r = isOpen t tablebase r && decided (successors rule rings) (judged rings t same tablebase)
+    (boardAt rings t same r)
 
 -- whether some number below n passes a test: one that does, or that none does
 abbrev pub Found : (ℕ → Bool) → ℕ → Bool → Type 0

@@ -2,27 +2,25 @@
 use mathlib.Core.Path.{_≡_, sym, ap, _∙_}
 use mathlib.Core.List.{List}
 use Prim.Native.Nat.{ℕ, _*_}
-use Rattle.lists.specs.Lists.{isEmpty}
 use Rattle.board.specs.Board.{boardOf}
 use Rattle.ranking.specs.Unrank.{unrank}
-use Rattle.rules.specs.Ply.{legalMoves}
+use Rattle.rules.specs.Ply.{blocked}
 use Rattle.plies.specs.Inner.Positions.{Placed}
-use Rattle.outcomes.specs.Whole.{next}
 use Rattle.seeking.proofs.Positions.{placed-at}
-use Rattle.ending.proofs.Blocked.{no-successor, place-closed, place-blocked, place-free}
+use Rattle.ending.proofs.Blocked.{place-closed, place-blocked, place-free}
 use borrow.Author.Needs.{needs}
 use Rattle.ending.proofs.sweep_place.Statement.{statement}
 use Rattle.ending.proofs.sweep_place.Tie as tie
 
--- the position of the rank, and that its board has a move exactly where it has a successor
+-- the position of the rank, and that it is blocked where its board is
 found : (s : tie.Start)
     → Placed (s .args .rings) (s .args .position)
-    × (isEmpty (legalMoves (s .args .rings) (boardOf (8 * s .args .rings) (s .args .position)))
-    ≡ isEmpty (next (s .args .rings) (unrank (8 * s .args .rings) (s .args .table .mover) (s .args .table .opponent) (s .args .r))))
+    × (blocked (s .args .rings) (boardOf (8 * s .args .rings) (s .args .position))
+    ≡ blocked (s .args .rings) (unrank (8 * s .args .rings) (s .args .table .mover) (s .args .table .opponent) (s .args .r)))
 found s =
     let a = s .args in
     let w = placed-at (a .rings) (s .pre .0 .small) (a .table .mover) (a .table .opponent) (a .r) (s .pre .1 .0 .1) (a .position) (s .pre .1 .1) in
-    (w .0, no-successor (a .rings) (boardOf (8 * a .rings) (a .position)) ∙ ap (λ (b : List ℕ). isEmpty (next (a .rings) b)) (w .1))
+    (w .0, ap (λ (b : List ℕ). blocked (a .rings) b) (w .1))
 
 is-open-requires : tie.Need-is-open-requires
 is-open-requires c κs = search needs

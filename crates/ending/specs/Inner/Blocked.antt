@@ -4,15 +4,14 @@ use mathlib.Core.List.{List}
 use Prim.Native.Nat.{ℕ, zero, suc, _+_, _-_, _*_}
 use lib.Dec.{eqb, ltb}
 use lib.ListN.{set}
-use Rattle.lists.specs.Lists.{isEmpty}
 use Rattle.ranking.specs.Unrank.{unrank}
-use Rattle.outcomes.specs.Whole.{next}
+use Rattle.rules.specs.Ply.{blocked}
 use Rattle.tables.specs.declared.Table.{Table}
 use Rattle.deciding.specs.Inner.Open.{isOpen}
 
 -- level 0: an open position whose mover is blocked gets 0
 unfoldable pub blockedPlace : ℕ → Table → List ℕ → ℕ → List ℕ
-blockedPlace rings t tablebase r = elim (isOpen t tablebase r && isEmpty (next rings (unrank (8 * rings) (t .mover) (t .opponent) r))) [
+blockedPlace rings t tablebase r = elim (isOpen t tablebase r && blocked rings (unrank (8 * rings) (t .mover) (t .opponent) r)) [
   | true ↦ set tablebase (t .own .start + r) 0
   | false ↦ tablebase
 ]

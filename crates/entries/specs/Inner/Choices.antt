@@ -1,9 +1,8 @@
--- The choice of a best move, as the calls answer it. Assumes nothing.
+-- The choice of a best move under a rule of removal, as the calls answer it. Assumes nothing.
 use mathlib.Core.Bool.{cond}
 use mathlib.Core.List.{List, [], _∷_}
 use Prim.Native.Nat.{ℕ}
-use Rattle.lists.specs.Lists.{isEmpty}
-use Rattle.rules.specs.Ply.{legalMoves}
+use Rattle.rules.specs.Ply.{Rule, blocked}
 use Rattle.outcomes.specs.Places.{successorEntry, successorVoid}
 use Rattle.answers.specs.Answers.{Answer, accepted, refused, answer}
 use Rattle.entries.specs.declared.Choice.{Choice}
@@ -17,7 +16,7 @@ choice Void = refused 12
 choice (Move number entry) = accepted (number ∷ entry ∷ [])
 
 -- the choice at a board: the best move "with the entry of the successor it leads to"
-unfoldable pub choiceAt : ℕ → ℕ → List ℕ → List ℕ → Answer
-choiceAt rings k tablebase b =
-    answer (cond (isEmpty (legalMoves rings b)) 9 (cond (successorVoid rings k tablebase b) 12 0))
-    (bestListed rings k tablebase b ∷ successorEntry rings k tablebase (bestSuccessor rings k tablebase b) ∷ [])
+unfoldable pub choiceAt : Rule → ℕ → ℕ → List ℕ → List ℕ → Answer
+choiceAt rule rings k tablebase b =
+    answer (cond (blocked rings b) 9 (cond (successorVoid rule rings k tablebase b) 12 0))
+    (bestListed rule rings k tablebase b ∷ successorEntry rings k tablebase (bestSuccessor rule rings k tablebase b) ∷ [])

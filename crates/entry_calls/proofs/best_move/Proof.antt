@@ -1,7 +1,8 @@
--- `entry_calls::best_move` meets its contract: a refusal of the board, K or the tablebase, or what the choice at its position says. Assumes nothing.
+-- `entry_calls::best_move` meets its contract: a refusal of rings, edition, board, K or tablebase, or what the choice at its position says. Assumes nothing.
 use mathlib.Core.Path.{_≡_, sym, ap, _∙_}
 use lib.ListN.{length}
 use borrow.Author.Needs.{needs}
+use Rattle.rules.specs.Ply.{removable}
 use Rattle.refusals.specs.Refusals.{refusal}
 use Rattle.refusals.specs.Conditions.{tablebasePicks}
 use Rattle.refusals.proofs.TablebaseConditions.{AcceptedEntry, accepted-entry, best-move-refused}
@@ -13,39 +14,6 @@ use Rattle.entry_calls.specs.BestMoveCall.{bestMoveCall}
 use Rattle.entry_calls.proofs.Stands.{stands, choice-answer}
 use Rattle.entry_calls.proofs.best_move.Statement.{statement}
 use Rattle.entry_calls.proofs.best_move.Tie as tie
-
--- the start of the call, seen from past the first refusals; and those passed, seen from where the position is known, and the choice
-abbrev started : tie.Else1 → tie.Start
-started c = c .before .before .before .before .before .before
-
-abbrev placing : tie.After-position-of → tie.Else1
-placing c = c .before .before
-
-abbrev choosing : tie.After-best-of → tie.After-position-of
-choosing c = c .before .before .before
-
--- past them board and tablebase are accepted, and the position shows the board
-passed : (c : tie.Else1)
-    → 0 ≡ refusal (tablebasePicks (started c .args .rings) (started c .args .board .now) (started c .args .k) (length (started c .args .tablebase .now)))
-passed c = sym (c .if1 .left) ∙ c .before .of-tablebase .ensures
-
-known : (c : tie.Else1)
-    → AcceptedEntry (started c .args .rings) (started c .args .board .now) (started c .args .k) (length (started c .args .tablebase .now))
-known c = accepted-entry _ _ _ _ (sym (passed c))
-
-shows : (c : tie.After-position-of) → ShowsBoard (started (placing c) .args .rings) (started (placing c) .args .board .now) (c .position-of .result)
-shows c = board-shown _ _ (known (placing c) .board) _ (c .position-of .ensures)
-
--- the choice is what the call answers
-chosen : (c : tie.After-best-of)
-    → choice (c .best-of .result)
-    ≡ bestMoveCall (started (placing (choosing c)) .args .rings) (started (placing (choosing c)) .args .board .now)
-    (started (placing (choosing c)) .args .k) (started (placing (choosing c)) .args .tablebase .now)
-chosen c =
-    let x = placing (choosing c) in
-    let a = started x .args in
-    c .best-of .ensures ∙ ap (choiceAt (a .rings) (a .k) (a .tablebase .now)) (shows (choosing c) .back)
-    ∙ choice-answer (a .rings) (a .board .now) (a .k) (a .tablebase .now) (passed x)
 
 binomial-table-requires : tie.Need-binomial-table-requires
 binomial-table-requires c κs = search needs
@@ -59,7 +27,42 @@ returns c =
     let a = c .before .before .before .before .before .before .args in
     let n = c .before .of-tablebase .result in
     answer-refused n _ _ (c .if1 .taken)
-    (best-move-refused (a .rings) (a .board .now) (a .k) (a .tablebase .now) n (c .if1 .taken) (c .before .of-tablebase .ensures))
+    (best-move-refused (a .rings) (a .edition) (a .board .now) (a .k) (a .tablebase .now) n (c .if1 .taken) (c .before .of-tablebase .ensures))
+
+-- the start of the call, seen from past the first refusals; and those passed, seen from where the position is known, and the choice
+abbrev started : tie.Else1 → tie.Start
+started c = c .before .before .before .before .before .before
+
+abbrev placing : tie.After-position-of → tie.Else1
+placing c = c .before .before
+
+abbrev choosing : tie.After-best-of → tie.After-position-of
+choosing c = c .before .before .before
+
+-- past them board and tablebase are accepted, and the position shows the board
+passed : (c : tie.Else1)
+    → 0 ≡ refusal (tablebasePicks (started c .args .rings) (started c .args .edition) (started c .args .board .now) (started c .args .k)
+    (length (started c .args .tablebase .now)))
+passed c = sym (c .if1 .left) ∙ c .before .of-tablebase .ensures
+
+known : (c : tie.Else1)
+    → AcceptedEntry (started c .args .rings) (started c .args .board .now) (started c .args .k) (length (started c .args .tablebase .now))
+known c = accepted-entry _ (started c .args .edition) _ _ _ (sym (passed c))
+
+shows : (c : tie.After-position-of) → ShowsBoard (started (placing c) .args .rings) (started (placing c) .args .board .now) (c .position-of .result)
+shows c = board-shown _ _ (known (placing c) .board) _ (c .position-of .ensures)
+
+-- the choice is what the call answers
+chosen : (c : tie.After-best-of)
+    → choice (c .best-of .result)
+    ≡ bestMoveCall (started (placing (choosing c)) .args .rings) (started (placing (choosing c)) .args .edition)
+    (started (placing (choosing c)) .args .board .now) (started (placing (choosing c)) .args .k)
+    (started (placing (choosing c)) .args .tablebase .now)
+chosen c =
+    let x = placing (choosing c) in
+    let a = started x .args in
+    c .best-of .ensures ∙ ap (choiceAt (removable (a .edition)) (a .rings) (a .k) (a .tablebase .now)) (shows (choosing c) .back)
+    ∙ choice-answer (a .rings) (a .edition) (a .board .now) (a .k) (a .tablebase .now) (passed x)
 
 masks-of-requires : tie.Need-masks-of-requires
 masks-of-requires c κs = known c .board .rings-high

@@ -1,4 +1,4 @@
--- `entry_calls::lookup` meets its contract: a refusal of the board, K or the tablebase, then of a void entry, or the entry. Assumes nothing.
+-- `entry_calls::lookup` meets its contract: a refusal of rings, edition, board, K or tablebase, then of a void entry, or the entry. Assumes nothing.
 use mathlib.Core.Path.{_≡_, sym, ap, _∙_}
 use mathlib.Core.List.{[], _∷_}
 use Prim.Native.Nat.{ℕ}
@@ -18,18 +18,33 @@ use Rattle.entry_calls.proofs.Stands.{stands, void-answer, entry-answer
 use Rattle.entry_calls.proofs.lookup.Statement.{statement}
 use Rattle.entry_calls.proofs.lookup.Tie as tie
 
+binomial-table-requires : tie.Need-binomial-table-requires
+binomial-table-requires c κs = search needs
+
+of-tablebase-requires : tie.Need-of-tablebase-requires
+of-tablebase-requires c κs = search needs
+
+returns : tie.Need-returns
+unfolding lookupCall
+returns c =
+    let a = c .before .before .before .before .before .before .args in
+    let n = c .before .of-tablebase .result in
+    answer-refused n _ _ (c .if1 .taken)
+    (lookup-refused (a .rings) (a .edition) (a .board .now) (a .k) (a .tablebase .now) n (c .if1 .taken) (c .before .of-tablebase .ensures))
+
 -- the start of the call, seen from past the first refusals
 abbrev started : tie.Else1 → tie.Start
 started c = c .before .before .before .before .before .before
 
 -- past them board and tablebase are accepted, and the position shows the board
 passed : (c : tie.Else1)
-    → 0 ≡ refusal (tablebasePicks (started c .args .rings) (started c .args .board .now) (started c .args .k) (length (started c .args .tablebase .now)))
+    → 0 ≡ refusal (tablebasePicks (started c .args .rings) (started c .args .edition) (started c .args .board .now) (started c .args .k)
+    (length (started c .args .tablebase .now)))
 passed c = sym (c .if1 .left) ∙ c .before .of-tablebase .ensures
 
 known : (c : tie.Else1)
     → AcceptedEntry (started c .args .rings) (started c .args .board .now) (started c .args .k) (length (started c .args .tablebase .now))
-known c = accepted-entry _ _ _ _ (sym (passed c))
+known c = accepted-entry _ (started c .args .edition) _ _ _ (sym (passed c))
 
 shows : (c : tie.After-position-of) → ShowsBoard (started (c .before) .args .rings) (started (c .before) .args .board .now) (c .position-of .result)
 shows c = board-shown _ _ (known (c .before) .board) _ (c .position-of .ensures)
@@ -46,20 +61,6 @@ entry-is c =
     let a = started (reading c .before) .args in
     c .entry-of .ensures ∙ ap (entryAt (a .rings) (a .k) (a .tablebase .now)) (shows (reading c) .back)
 
-binomial-table-requires : tie.Need-binomial-table-requires
-binomial-table-requires c κs = search needs
-
-of-tablebase-requires : tie.Need-of-tablebase-requires
-of-tablebase-requires c κs = search needs
-
-returns : tie.Need-returns
-unfolding lookupCall
-returns c =
-    let a = c .before .before .before .before .before .before .args in
-    let n = c .before .of-tablebase .result in
-    answer-refused n _ _ (c .if1 .taken)
-    (lookup-refused (a .rings) (a .board .now) (a .k) (a .tablebase .now) n (c .if1 .taken) (c .before .of-tablebase .ensures))
-
 position-of-requires : tie.Need-position-of-requires
 position-of-requires c κs = few-points _ _ (known c .board)
 
@@ -74,14 +75,16 @@ returns-2 : tie.Need-returns-2
 returns-2 c =
     let x = reading (c .before) .before in
     let a = started x .args in
-    void-answer (a .rings) (a .board .now) (a .k) (a .tablebase .now) (passed x) (eq-eqb _ _ (sym (entry-is (c .before)) ∙ c .if2 .taken))
+    void-answer (a .rings) (a .edition) (a .board .now) (a .k) (a .tablebase .now) (passed x)
+    (eq-eqb _ _ (sym (entry-is (c .before)) ∙ c .if2 .taken))
 
 returns-3 : tie.Need-returns-3
 returns-3 c =
     let x = reading (c .before) .before in
     let a = started x .args in
     ap (λ (e : ℕ). accepted (e ∷ [])) (entry-is (c .before))
-    ∙ entry-answer (a .rings) (a .board .now) (a .k) (a .tablebase .now) (passed x) (ne-eqb _ _ (λ e. c .if2 .left (entry-is (c .before) ∙ e)))
+    ∙ entry-answer (a .rings) (a .edition) (a .board .now) (a .k) (a .tablebase .now) (passed x)
+    (ne-eqb _ _ (λ e. c .if2 .left (entry-is (c .before) ∙ e)))
 
 pub lookup-spec : {M : Type 1} → statement M
 lookup-spec =

@@ -4,6 +4,8 @@ use mathlib.Core.List.{List}
 use Prim.Native.Nat.{ℕ, suc, _+_, _-_, _<_}
 use native.Mathlib.Omega.{arith}
 use lib.ListN.{length}
+use Rattle.rules.specs.Ply.{Rule, removable}
+use Rattle.rules.proofs.Listed.{TakesOpponent, removable-takes}
 use Rattle.game.specs.Game.{drawEntry, voidEntry}
 use Rattle.outcomes.specs.Pair.{LowerValid}
 use Rattle.outcomes.specs.Filled.{BothTables, Kept}
@@ -17,6 +19,7 @@ use Rattle.filling.proofs.NextLevel.{in-room, setting-now, state-next}
 use Rattle.depths.proofs.Held.{least-void}
 use Rattle.invariance.specs.Symmetric.{LowerSymmetric}
 use Rattle.invariance.proofs.Groups.{group-of}
+use Rattle.invariance.proofs.Plies.{Commutes, removable-commutes}
 use Rattle.classing.specs.Inner.Classes.{moverSet, leastOfClass}
 use Rattle.classing.proofs.Picked.{least-picks}
 use Rattle.filling.proofs.PairClasses.{after-classes}
@@ -31,7 +34,8 @@ Inv-loop tablebase₀ binomials masks images bounds maps tables level₀ tableba
     (tables .second)) (valid : LowerValid (bounds .rings) (bounds .k) (tables .first .mover) (tables .first .opponent) before)
     → LowerSymmetric maps (bounds .rings) (bounds .k) (tables .first .mover) (tables .first .opponent) before
     → tablebase₀ ≡ pairBlocked (bounds .rings) (tables .first) (tables .second) (pairFilled (tables .first) (tables .second) drawEntry before)
-    → (0 < level) × State (bounds .rings) (bounds .k) (tables .first .mover) (tables .first .opponent) (tables .first)
+    → (0 < level) × State (removable (bounds .edition)) (removable-takes (bounds .edition)) (bounds .rings) (bounds .k) (tables .first .mover)
+    (tables .first .opponent) (tables .first)
     (tables .second) before s valid (bounds .limit) level tablebase
 
 abbrev μ-loop : tie.MeasureT-loop
@@ -43,6 +47,15 @@ entered x = x .before .before .before .before .before .before .before .before .b
 
 -- what the call is given, and what it says of a tablebase at entry
 module _ (s : tie.Start Inv-loop μ-loop) where
+  abbrev rule : Rule
+  rule = removable (s .args .bounds .edition)
+
+  abbrev takes : TakesOpponent (removable (s .args .bounds .edition))
+  takes = removable-takes (s .args .bounds .edition)
+
+  abbrev commutes : Commutes (removable (s .args .bounds .edition))
+  commutes = removable-commutes (s .args .bounds .edition)
+
   abbrev rings : ℕ
   rings = s .args .bounds .rings
 
@@ -68,7 +81,7 @@ module _ (s : tie.Start Inv-loop μ-loop) where
   Mirrored before = LowerSymmetric (s .args .maps) rings k (first .mover) (first .opponent) before
 
   abbrev Reached : (before : List ℕ) → Tabled (length before) → Valid before → ℕ → List ℕ → Type 0
-  Reached before w valid level now = State rings k (first .mover) (first .opponent) first second before w valid limit level now
+  Reached before w valid level now = State rule takes rings k (first .mover) (first .opponent) first second before w valid limit level now
 
 -- the entry of the function, seen from after a level, and the loop, seen from after the search for the next
 abbrev levelling : tie.After-level-pair Inv-loop μ-loop → tie.Start Inv-loop μ-loop
@@ -95,14 +108,16 @@ module _ (c : tie.After-level-pair Inv-loop μ-loop) (before : List ℕ) (w : Ta
     (st : Reached (levelling c) before w valid (c .before .before .before .loop .level) (c .before .before .before .loop .tablebase)) where
   levelled : Kept (rings (levelling c)) (k (levelling c)) (BothTables (first (levelling c) .mover) (first (levelling c) .opponent)) before
       (c .level-pair .last .0)
-      × ExactBelow (rings (levelling c)) (k (levelling c)) (first (levelling c) .mover) (first (levelling c) .opponent) (first (levelling c))
+      × ExactBelow (rule (levelling c)) (takes (levelling c)) (rings (levelling c)) (k (levelling c)) (first (levelling c) .mover)
+      (first (levelling c) .opponent) (first (levelling c))
       (second (levelling c)) before w valid (suc (c .before .before .before .loop .level)) (c .level-pair .last .0)
   levelled =
       let x = c .before .before .before in
       let s = entered x in
       let maps : ℕ = s .args .maps in
       let g = group-of maps (s .pre .1 .used) in
-      after-classes (rings s) (k s) (first s .mover) (first s .opponent) (first s) (second s) before w valid maps g mirrored
+      after-classes (rule s) (takes s) (commutes s) (rings s) (k s) (first s .mover) (first s .opponent) (first s) (second s) before w valid maps g
+      mirrored
       (leastOfClass (rings s) maps) (least-picks (λ b. moverSet b) (rings s) (w .pair .small) maps g) (x .loop .level)
       (state x .0) (c .before .before .loop-test .taken) (limit s) (x .loop .tablebase) st (c .level-pair .last .0) (c .level-pair .ensures)
 
@@ -132,8 +147,8 @@ loop-holds c =
     let s = c .before .before .before .before .before .before .before .before .before in
     λ before w valid mirrored e. (
       omega arith,
-      after-blocked (rings s) (k s) (first s .mover) (first s .opponent) (first s) (second s) before w valid (limit s) _
-          (state-start (rings s) (k s) (first s .mover) (first s .opponent) (first s) (second s) before w valid (limit s)) _ e,
+      after-blocked (rule s) (takes s) (rings s) (k s) (first s .mover) (first s .opponent) (first s) (second s) before w valid (limit s) _
+          (state-start (rule s) (takes s) (rings s) (k s) (first s .mover) (first s .opponent) (first s) (second s) before w valid (limit s)) _ e,
     )
 
 level-pair-requires : tie.Need-level-pair-requires Inv-loop μ-loop
@@ -168,9 +183,10 @@ returns c =
     let s = entered x in
     let a = s .args in
     let w = levelled l (a .tablebase .now) (s .pre .1 .setting) (s .pre .1 .valid) (s .pre .1 .symmetric) (state x .1) in
-    voided (rings s) (k s) (first s .mover) (first s .opponent) (first s) (second s) (a .tablebase .now) (l .level-pair .last .0)
+    voided (rule s) (rings s) (k s) (first s .mover) (first s .opponent) (first s) (second s) (a .tablebase .now) (l .level-pair .last .0)
     (c .before .before .fill-tables2 .last .0) (s .pre .1 .setting) (w .0) (limit s) _
-    (beyond-limit (rings s) (k s) (first s .mover) (first s .opponent) (first s) (second s) (a .tablebase .now) (s .pre .1 .setting)
+    (beyond-limit (rule s) (takes s) (rings s) (k s) (first s .mover) (first s .opponent) (first s) (second s) (a .tablebase .now)
+    (s .pre .1 .setting)
     (s .pre .1 .valid) (limit s) (x .loop .level) (state x .0) (l .before .before .loop-test .taken) (x .loop .tablebase) (state x .1)
     (l .level-pair .last .0) (w .1) (subst (WroteBeyond (first s) (second s) (limit s) (x .loop .level) (l .level-pair .last .0)) (t .if1 .taken)
     (t .before .beyond .ensures))) (c .before .before .fill-tables2 .ensures)
@@ -203,9 +219,11 @@ stepped c before w valid mirrored st =
     let x = l .before .before .before in
     let s = entered x in
     let d = levelled l before w valid mirrored st in
-    state-next (rings s) (k s) (first s .mover) (first s .opponent) (first s) (second s) before w valid (limit s) (x .loop .level) (state x .0)
+    state-next (rule s) (takes s) (rings s) (k s) (first s .mover) (first s .opponent) (first s) (second s) before w valid (limit s) (x .loop .level)
+    (state x .0)
     (l .before .before .loop-test .taken) (l .level-pair .last .0) (d .0) (d .1)
-    (within-limit (rings s) (k s) (first s .mover) (first s .opponent) (first s) (second s) before w valid (limit s) (x .loop .level) (state x .0)
+    (within-limit (rule s) (takes s) (rings s) (k s) (first s .mover) (first s .opponent) (first s) (second s) before w valid (limit s)
+    (x .loop .level) (state x .0)
     (l .before .before .loop-test .taken) (x .loop .tablebase) st (l .level-pair .last .0) (d .1)
     (subst (WroteBeyond (first s) (second s) (limit s) (x .loop .level) (l .level-pair .last .0)) (e .if1 .left) (e .before .beyond .ensures)))
     (1 + c .pair-least .result) (omega (arith, c .pair-least .ensures))
@@ -231,7 +249,7 @@ returns-2 c =
     let x = c .before .before in
     let s = entered x in
     let a = s .args in
-    all-true (rings s) (k s) (first s .mover) (first s .opponent) (first s) (second s) (a .tablebase .now)
+    all-true (rule s) (takes s) (rings s) (k s) (first s .mover) (first s .opponent) (first s) (second s) (a .tablebase .now)
     (s .pre .1 .setting) (s .pre .1 .valid) (limit s) (x .loop .level) (x .loop .tablebase) (state x .1) (state x .1 .over (c .if2 .taken))
 
 pair-decided-requires : tie.Need-pair-decided-requires Inv-loop μ-loop
@@ -250,12 +268,12 @@ returns-3 c =
     let x = t .before .before .before .before .before in
     let s = entered x in
     let a = s .args in
-    voided (rings s) (k s) (first s .mover) (first s .opponent) (first s) (second s) (a .tablebase .now) (x .loop .tablebase)
+    voided (rule s) (rings s) (k s) (first s .mover) (first s .opponent) (first s) (second s) (a .tablebase .now) (x .loop .tablebase)
     (c .before .before .fill-tables3 .last .0) (s .pre .1 .setting) (state x .1 .kept) (limit s) _
-    (one-decided (rings s) (k s) (first s .mover) (first s .opponent) (first s) (second s) (a .tablebase .now)
+    (one-decided (rule s) (takes s) (rings s) (k s) (first s .mover) (first s .opponent) (first s) (second s) (a .tablebase .now)
     (s .pre .1 .setting) (s .pre .1 .valid) (limit s) (x .loop .level) (x .loop .tablebase) (state x .1)
     (omega (arith, t .before .before .before .before .loop-test .left, s .pre .1 .limit-low)) (omega (arith, t .before .before .before .if2 .left))
-    (subst (PairFound (rings s) (first s) (second s) (x .loop .tablebase)) (t .if3 .taken) (t .before .pair-decided .ensures)))
+    (subst (PairFound (rule s) (rings s) (first s) (second s) (x .loop .tablebase)) (t .if3 .taken) (t .before .pair-decided .ensures)))
     (c .before .before .fill-tables3 .ensures)
 
 same-length-3 : tie.Need-same-length-3 Inv-loop μ-loop
@@ -269,10 +287,10 @@ returns-4 c =
     let x = c .before .before .before .before .before in
     let s = entered x in
     let a = s .args in
-    nothing-decided (rings s) (k s) (first s .mover) (first s .opponent) (first s) (second s) (a .tablebase .now)
+    nothing-decided (rule s) (takes s) (rings s) (k s) (first s .mover) (first s .opponent) (first s) (second s) (a .tablebase .now)
     (s .pre .1 .setting) (s .pre .1 .valid) (limit s) (x .loop .level) (x .loop .tablebase) (state x .1)
     (omega (arith, c .before .before .before .before .loop-test .left, s .pre .1 .limit-low)) (omega (arith, c .before .before .before .if2 .left))
-    (subst (PairFound (rings s) (first s) (second s) (x .loop .tablebase)) (c .if3 .left) (c .before .pair-decided .ensures))
+    (subst (PairFound (rule s) (rings s) (first s) (second s) (x .loop .tablebase)) (c .if3 .left) (c .before .pair-decided .ensures))
 
 pub solve-tables-spec : {M : Type 1} → statement M
 solve-tables-spec =

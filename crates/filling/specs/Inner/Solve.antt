@@ -5,6 +5,7 @@ use mathlib.Core.List.{List}
 use Prim.Native.Nat.{ℕ, _*_, _≤_, _<_}
 use lib.ListN.{length}
 use Rattle.layout.specs.Layout.{tablebaseLength}
+use Rattle.rules.specs.Ply.{Rule}
 use Rattle.game.specs.Game.{voidEntry}
 use Rattle.outcomes.specs.Pair.{Pair, LowerValid, pairSeed}
 use Rattle.outcomes.specs.Filled.{BothTables, Fill}
@@ -34,5 +35,5 @@ pub record PairSolving (lent tablebase : List ℕ) (bounds : Bounds) (maps : ℕ
   pub symmetric : LowerSymmetric maps (bounds .rings) (bounds .k) (tables .first .mover) (tables .first .opponent) tablebase
 
 -- the pair is filled, or some position is too deep
-abbrev pub PairFill : ℕ → ℕ → ℕ → ℕ → ℕ → List ℕ → List ℕ → Bool → Type 0
-PairFill rings k m o limit before after deep = Fill rings k limit (BothTables m o) (λ b. pairSeed rings k m o before b) before after deep
+abbrev pub PairFill : Rule → ℕ → ℕ → ℕ → ℕ → ℕ → List ℕ → List ℕ → Bool → Type 0
+PairFill rule rings k m o limit before after deep = Fill rule rings k limit (BothTables m o) (λ b. pairSeed rings k m o before b) before after deep

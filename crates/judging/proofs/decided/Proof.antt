@@ -19,14 +19,15 @@ use Rattle.judging.proofs.decided.Tie as tie
 lost : (c : tie.After-some-successor)
     → c .some-successor .result ≡ any (λ b. isLost (probe (c .before .before .args .tablebase .now) (c .before .before .args .starts .same) (c .before .before .args .starts .fewer)
     (count 2 (boardOf (8 * c .before .before .args .rings) (c .before .before .args .position))) b))
-    (successors (λ n b. removable n b) (c .before .before .args .rings) (boardOf (8 * c .before .before .args .rings) (c .before .before .args .position)))
+    (successors (removable (c .before .before .args .edition)) (c .before .before .args .rings)
+    (boardOf (8 * c .before .before .args .rings) (c .before .before .args .position)))
 lost c =
     let k = c .before in
     let a = k .before .args in
     let b : List ℕ = boardOf (8 * a .rings) (a .position) in
     c .some-successor .ensures
     ∙ some-lost (a .tablebase .now) (λ i. omega (arith, k .shared-slice-known .given i)) (a .starts .same) (a .starts .fewer) (count 2 b)
-    (successors (λ n d. removable n d) (a .rings) b)
+    (successors (removable (a .edition)) (a .rings) b)
 
 some-successor-requires : tie.Need-some-successor-requires
 some-successor-requires c κs = search needs
@@ -37,8 +38,8 @@ returns c =
     let a = f .before .before .args in
     let b : List ℕ = boardOf (8 * a .rings) (a .position) in
     let t : List ℕ → ℕ = λ d. probe (a .tablebase .now) (a .starts .same) (a .starts .fewer) (count 2 b) d in
-    sym (decided-is (λ d. successors (λ n e. removable n e) (a .rings) d) t b
-    ∙ ap (λ (x : Bool). x || all (λ d. isWon (t d)) (successors (λ n d. removable n d) (a .rings) b)) (sym (lost f) ∙ c .if1 .taken))
+    sym (decided-is (successors (removable (a .edition)) (a .rings)) t b
+    ∙ ap (λ (x : Bool). x || all (λ d. isWon (t d)) (successors (removable (a .edition)) (a .rings) b)) (sym (lost f) ∙ c .if1 .taken))
 
 some-successor-requires-2 : tie.Need-some-successor-requires-2
 some-successor-requires-2 c κs = search needs
@@ -52,10 +53,10 @@ returns-2 c =
     let b : List ℕ = boardOf (8 * a .rings) (a .position) in
     let t : List ℕ → ℕ = λ d. probe (a .tablebase .now) (a .starts .same) (a .starts .fewer) (count 2 b) d in
     ap not (c .some-successor2 .ensures)
-    ∙ sym (decided-is (λ d. successors (λ n e. removable n e) (a .rings) d) t b
+    ∙ sym (decided-is (successors (removable (a .edition)) (a .rings)) t b
     ∙ ap₂ _||_ (sym (lost f) ∙ e .if1 .left)
     (all-won (a .tablebase .now) (λ i. omega (arith, k .shared-slice-known .given i)) (a .starts .same) (a .starts .fewer) (count 2 b)
-    (successors (λ n d. removable n d) (a .rings) b)))
+    (successors (removable (a .edition)) (a .rings) b)))
 
 pub decided-spec : {M : Type 1} → statement M
 decided-spec =

@@ -32,8 +32,9 @@ returns c =
     let odd : a .level % 2 ≡ 1 = c .before .if1 .taken in
     c .some-successor .ensures
     ∙ some-before (a .tablebase .now) (λ i. omega (arith, k .shared-slice-known .given i)) (a .starts .same) (a .starts .fewer) (count 2 b)
-    (successors (λ n d. removable n d) (a .rings) b) (a .level) odd (k .before .pre .1 .1)
-    ∙ sym (hit-odd (λ d. successors (λ n e. removable n e) (a .rings) d) (λ d. probe (a .tablebase .now) (a .starts .same) (a .starts .fewer) (count 2 b) d) (a .level) b odd)
+    (successors (removable (a .edition)) (a .rings) b) (a .level) odd (k .before .pre .1 .1)
+    ∙ sym (hit-odd (successors (removable (a .edition)) (a .rings))
+    (λ d. probe (a .tablebase .now) (a .starts .same) (a .starts .fewer) (count 2 b) d) (a .level) b odd)
 
 some-successor-requires-2 : tie.Need-some-successor-requires-2
 some-successor-requires-2 c κs =
@@ -47,9 +48,10 @@ returns-2 c =
     let b : List ℕ = boardOf (8 * a .rings) (a .position) in
     let even : a .level % 2 ≡ 0 = omega (arith, c .before .if1 .left) in
     ap not (c .some-successor2 .ensures)
-    ∙ sym (hit-even (λ d. successors (λ n e. removable n e) (a .rings) d) (λ d. probe (a .tablebase .now) (a .starts .same) (a .starts .fewer) (count 2 b) d) (a .level) b even
+    ∙ sym (hit-even (successors (removable (a .edition)) (a .rings))
+    (λ d. probe (a .tablebase .now) (a .starts .same) (a .starts .fewer) (count 2 b) d) (a .level) b even
     ∙ all-below (a .tablebase .now) (λ i. omega (arith, k .shared-slice-known .given i)) (a .starts .same) (a .starts .fewer) (count 2 b)
-    (successors (λ n d. removable n d) (a .rings) b) (a .level) (omega (arith, k .before .pre .1 .1)))
+    (successors (removable (a .edition)) (a .rings) b) (a .level) (omega (arith, k .before .pre .1 .1)))
 
 pub hits-spec : {M : Type 1} → statement M
 hits-spec =

@@ -20,7 +20,7 @@ returns c =
     let b : List ℕ = boardOf (8 * a .rings) (a .position) in
     c .some-successor .ensures
     ∙ some-void (a .tablebase .now) (λ i. omega (arith, k .shared-slice-known .given i)) (a .starts .same) (a .starts .fewer) (count 2 b)
-    (successors (λ n d. removable n d) (a .rings) b)
+    (successors (removable (a .edition)) (a .rings) b)
 
 pub void-after-spec : {M : Type 1} → statement M
 void-after-spec = tie.close (tie.spec some-successor-requires returns)

@@ -13,6 +13,8 @@ use Rattle.board.specs.Board.{boardOf}
 use Rattle.inserting.specs.Inner.Inserting.{Inserting}
 use Rattle.ranking.specs.Inner.Rankable.{Rankable}
 use Rattle.rules.specs.Ply.{destinations, removable, slideMoves, afterPly}
+use Rattle.rules.proofs.Listed.{removable-takes}
+use Rattle.rules.proofs.Rises.{removable-rising}
 use Rattle.plies.specs.Inner.Positions.{Slide}
 use Rattle.plies.proofs.OnPositions.{from-low}
 use Rattle.plies.proofs.StoneMoves.{destinations-fit, destinations-vacant}
@@ -26,7 +28,7 @@ use Rattle.jumping.proofs.some_jump.Tie as tie
 abbrev Inv-loop : tie.InvT-loop
 Inv-loop tablebase binomials masks rings question position stone lifted walk₀ left₀ walk left =
     Sought (λ to. any (λ m. entryAsked tablebase question (boardOf (8 * rings) position) (afterPly (boardOf (8 * rings) position) m))
-    (slideMoves (λ n b. removable n b) rings (boardOf (8 * rings) position) (stone .from) to)) (stone .tos) left
+    (slideMoves (removable (question .edition)) rings (boardOf (8 * rings) position) (stone .from) to)) (stone .tos) left
     × Inserting (boardOf (8 * rings) lifted) true walk
     × ((q : ℕ) → bit left q ≡ 1 → walk .at ≤ q)
 
@@ -139,6 +141,34 @@ slide-number-requires c κs =
     let l = c .before .before in
     low (l .before .before .before .before .before .before .before) (l .take-lowest .result .lowest) (among l)
 
+-- what is found of the moves to that point
+found : (c : tie.After-some-at Inv-loop μ-loop)
+    → c .some-at .result
+    ≡ any (λ m. entryAsked (c .before .before .before .before .before .before .before .before .before .before .before .args .tablebase .now)
+    (c .before .before .before .before .before .before .before .before .before .before .before .args .question)
+    (boardOf (8 * c .before .before .before .before .before .before .before .before .before .before .before .args .rings)
+    (c .before .before .before .before .before .before .before .before .before .before .before .args .position))
+    (afterPly (boardOf (8 * c .before .before .before .before .before .before .before .before .before .before .before .args .rings)
+    (c .before .before .before .before .before .before .before .before .before .before .before .args .position)) m))
+    (slideMoves (removable (c .before .before .before .before .before .before .before .before .before .before .before .args .question .edition))
+    (c .before .before .before .before .before .before .before .before .before .before .before .args .rings)
+    (boardOf (8 * c .before .before .before .before .before .before .before .before .before .before .before .args .rings)
+    (c .before .before .before .before .before .before .before .before .before .before .before .args .position))
+    (c .before .before .before .before .before .before .before .before .before .before .before .args .stone .from)
+    (c .before .before .before .before .take-lowest .result .lowest))
+found c =
+    let r = c .before .before in
+    let l = r .before .before in
+    let s = l .before .before .before .before .before .before .before in
+    let a = s .args in
+    let b : List ℕ = boardOf (8 * a .rings) (a .position) in
+    c .some-at .ensures
+    ∙ ap (λ (n : ℕ). any (λ p. entryAsked (a .tablebase .now) (a .question) b (afterPly b (n + p))) (elements 32 (r .removals .result)))
+    (c .before .slide-number .ensures)
+    ∙ some-slide (removable (a .question .edition)) (removable-takes (a .question .edition)) (removable-rising (a .question .edition)) (a .rings)
+    (s .pre .0 .placed .small) b _ (a .stone .from) (l .take-lowest .result .lowest) (r .removals .result)
+    (r .removals .ensures)
+
 some-at-requires : tie.Need-some-at-requires Inv-loop μ-loop
 some-at-requires c κs =
     let r = c .before in
@@ -153,38 +183,13 @@ some-at-requires c κs =
     let e = c .slide-number .ensures in (
       s .pre .0,
       (
-        removing (a .rings) (a .position) p (a .stone .from) to own (destination s to (among l)) (low s to (among l)) (r .removals .result)
+        removing (removable (a .question .edition)) (removable-takes (a .question .edition)) (a .rings) (a .position) p (a .stone .from) to own
+            (destination s to (among l)) (low s to (among l)) (r .removals .result)
             (r .removals .ensures) (c .slide-number .result) e,
         jumping (a .rings) (a .position) p (a .stone .from) (w .without .result) own (w .without .ensures) to (slides s to (among l)) _ refl
             (g .go-to .ensures .0) (g .go-to .ensures .1) e,
       ),
     )
-
--- what is found of the moves to that point
-found : (c : tie.After-some-at Inv-loop μ-loop)
-    → c .some-at .result
-    ≡ any (λ m. entryAsked (c .before .before .before .before .before .before .before .before .before .before .before .args .tablebase .now)
-    (c .before .before .before .before .before .before .before .before .before .before .before .args .question)
-    (boardOf (8 * c .before .before .before .before .before .before .before .before .before .before .before .args .rings)
-    (c .before .before .before .before .before .before .before .before .before .before .before .args .position))
-    (afterPly (boardOf (8 * c .before .before .before .before .before .before .before .before .before .before .before .args .rings)
-    (c .before .before .before .before .before .before .before .before .before .before .before .args .position)) m))
-    (slideMoves (λ n b. removable n b) (c .before .before .before .before .before .before .before .before .before .before .before .args .rings)
-    (boardOf (8 * c .before .before .before .before .before .before .before .before .before .before .before .args .rings)
-    (c .before .before .before .before .before .before .before .before .before .before .before .args .position))
-    (c .before .before .before .before .before .before .before .before .before .before .before .args .stone .from)
-    (c .before .before .before .before .take-lowest .result .lowest))
-found c =
-    let r = c .before .before in
-    let l = r .before .before in
-    let s = l .before .before .before .before .before .before .before in
-    let a = s .args in
-    let b : List ℕ = boardOf (8 * a .rings) (a .position) in
-    c .some-at .ensures
-    ∙ ap (λ (n : ℕ). any (λ p. entryAsked (a .tablebase .now) (a .question) b (afterPly b (n + p))) (elements 32 (r .removals .result)))
-    (c .before .slide-number .ensures)
-    ∙ some-slide (a .rings) (a .position) (s .pre .0 .placed) _ (a .stone .from) (l .take-lowest .result .lowest) (r .removals .result)
-    (r .removals .ensures)
 
 returns : tie.Need-returns Inv-loop μ-loop
 returns c =
@@ -194,7 +199,8 @@ returns c =
     let s = x .before .before .before .before .before in
     sought-found _ (s .args .stone .tos) (x .loop .left) (l .take-lowest .result .lowest) (l .take-lowest .result .rest) (x .loop .inv .0)
     (l .take-lowest .ensures) (sym (found m) ∙ c .if1 .taken)
-    ∙ some-stone (s .args .rings) (s .args .position) (s .pre .0 .placed) _ (s .args .stone .from) (s .args .stone .tos) (s .pre .1 .0 .tos)
+    ∙ some-stone (removable (s .args .question .edition)) (s .args .rings) (s .args .position) (s .pre .0 .placed) _ (s .args .stone .from)
+    (s .args .stone .tos) (s .pre .1 .0 .tos)
 
 loop-less : tie.Need-loop-less Inv-loop μ-loop
 loop-less c = omega (arith, c .before .before .before .before .before .take-lowest .ensures .less)
@@ -218,7 +224,8 @@ returns-2 c =
     let x = c .before in
     let s = x .before .before .before .before .before in
     sought-all _ (s .args .stone .tos) (x .loop .left) (x .loop .inv .0) (c .loop-test .left)
-    ∙ some-stone (s .args .rings) (s .args .position) (s .pre .0 .placed) _ (s .args .stone .from) (s .args .stone .tos) (s .pre .1 .0 .tos)
+    ∙ some-stone (removable (s .args .question .edition)) (s .args .rings) (s .args .position) (s .pre .0 .placed) _ (s .args .stone .from)
+    (s .args .stone .tos) (s .pre .1 .0 .tos)
 
 pub some-jump-spec : {M : Type 1} → statement M
 some-jump-spec =

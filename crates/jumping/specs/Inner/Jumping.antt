@@ -4,11 +4,11 @@ use mathlib.Core.Path.{_≡_}
 use mathlib.Core.Bool.{true}
 use Prim.Native.Nat.{ℕ, _+_, _*_}
 use lib.ListN.{set}
-use Rattle.lists.specs.Lists.{member}
 use Rattle.board.specs.declared.Position.{Position}
 use Rattle.board.specs.Board.{count, boardOf}
 use Rattle.inserting.specs.Inner.Inserting.{Inserting, Vacant}
-use Rattle.rules.specs.Ply.{noRemoval, legalMoves, afterPly}
+use Rattle.rules.specs.Ply.{noRemoval, afterPly}
+use Rattle.rules.specs.Inner.Making.{Makeable}
 use Rattle.plies.specs.Inner.Positions.{Placed}
 use Rattle.jumping.specs.declared.Jump.{Jump}
 
@@ -16,7 +16,6 @@ pub record Jumping (rings : ℕ) (position : Position) (jump : Jump) : Type 0 wh
   pub placed : Placed rings (jump .lifted)
   pub vacant : Vacant (boardOf (8 * rings) (jump .lifted)) (jump .walk .at)
   pub inserting : Inserting (boardOf (8 * rings) (jump .lifted)) true (jump .walk)
-  pub leads : member (jump .slide + noRemoval) (legalMoves rings (boardOf (8 * rings) position)) ≡ true
-      → set (boardOf (8 * rings) (jump .lifted)) (jump .walk .at) 2 ≡ afterPly (boardOf (8 * rings) position) (jump .slide + noRemoval)
-  pub stays : member (jump .slide + noRemoval) (legalMoves rings (boardOf (8 * rings) position)) ≡ true
-      → count 1 (afterPly (boardOf (8 * rings) position) (jump .slide + noRemoval)) ≡ count 2 (boardOf (8 * rings) position)
+  pub makeable : Makeable rings (boardOf (8 * rings) position) (jump .slide + noRemoval)
+  pub leads : set (boardOf (8 * rings) (jump .lifted)) (jump .walk .at) 2 ≡ afterPly (boardOf (8 * rings) position) (jump .slide + noRemoval)
+  pub stays : count 1 (afterPly (boardOf (8 * rings) position) (jump .slide + noRemoval)) ≡ count 2 (boardOf (8 * rings) position)

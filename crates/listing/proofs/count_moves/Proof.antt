@@ -11,6 +11,8 @@ use Rattle.sets.proofs.Passing.{Counted, counted-none, counted-more, counted-al
 use Rattle.board.specs.Board.{boardOf}
 use Rattle.rules.specs.Ply.{destinations, removable, stoneMoves}
 use Rattle.rules.specs.MoveList.{isCapture, captures, others}
+use Rattle.rules.proofs.Listed.{removable-takes}
+use Rattle.rules.proofs.Rises.{removable-rising}
 use Rattle.plies.proofs.OnPositions.{mover-small}
 use Rattle.plies.proofs.StoneMoves.{destinations-vacant, stone-given, mover-fits}
 use Rattle.listing.proofs.MoveCounts.{moves-kept, moves-few}
@@ -18,14 +20,14 @@ use Rattle.listing.proofs.count_moves.Statement.{statement}
 use Rattle.listing.proofs.count_moves.Tie as tie
 
 abbrev Inv-loop : tie.InvT-loop
-Inv-loop rings masks position captures₀ others₀ left₀ n k left =
-    Counted (λ from. captures (stoneMoves (λ m b. removable m b) rings (boardOf (8 * rings) position) from
+Inv-loop rings edition masks position captures₀ others₀ left₀ n k left =
+    Counted (λ from. captures (stoneMoves (removable edition) rings (boardOf (8 * rings) position) from
     (destinations rings (boardOf (8 * rings) position) from))) (position .mover) n left
-    × Counted (λ from. others (stoneMoves (λ m b. removable m b) rings (boardOf (8 * rings) position) from
+    × Counted (λ from. others (stoneMoves (removable edition) rings (boardOf (8 * rings) position) from
     (destinations rings (boardOf (8 * rings) position) from))) (position .mover) k left
 
 abbrev μ-loop : tie.MeasureT-loop
-μ-loop rings masks position captures₀ others₀ left₀ n k left = left
+μ-loop rings edition masks position captures₀ others₀ left₀ n k left = left
 
 -- it is one of the mover's
 own : (c : tie.After-take-lowest Inv-loop μ-loop) → bit (c .before .before .before .args .position .mover) (c .take-lowest .result .lowest) ≡ 1
@@ -67,7 +69,8 @@ loop-again c =
     let p : ℕ = t .take-lowest .result .lowest in
     let rest : ℕ = t .take-lowest .result .rest in
     let r = c .before .before .count-stone .result in
-    let e = stone-given (s .args .rings) (s .args .position) (s .pre .placed) p (d .destinations .result) (d .destinations .ensures) in (
+    let e = stone-given (removable (s .args .edition)) (s .args .rings) (s .args .position) (s .pre .placed) p (d .destinations .result)
+    (d .destinations .ensures) in (
       counted-more _ (s .args .position .mover) (x .loop .captures) (x .loop .left) p rest (r .captures) (x .loop .inv .0) (t .take-lowest .ensures)
           (c .before .before .count-stone .ensures .0 .0 ∙ ap (λ (l : List ℕ). length (captures l)) e),
       counted-more _ (s .args .position .mover) (x .loop .others) (x .loop .left) p rest (r .others) (x .loop .inv .1) (t .take-lowest .ensures)
@@ -82,7 +85,8 @@ add-captures c =
       arith,
       x .loop .inv .0 .total,
       c .before .count-stone .ensures .0 .1,
-      moves-few (s .args .rings) (s .args .position) (s .pre .placed) (λ m. isCapture m),
+      moves-few (removable (s .args .edition)) (removable-takes (s .args .edition)) (removable-rising (s .args .edition)) (s .args .rings)
+          (s .args .position) (s .pre .placed) (λ m. isCapture m),
     )
 
 add-others : tie.Need-add-others Inv-loop μ-loop
@@ -93,7 +97,8 @@ add-others c =
       arith,
       x .loop .inv .1 .total,
       c .before .before .count-stone .ensures .1 .1,
-      moves-few (s .args .rings) (s .args .position) (s .pre .placed) (λ m. not (isCapture m)),
+      moves-few (removable (s .args .edition)) (removable-takes (s .args .edition)) (removable-rising (s .args .edition)) (s .args .rings)
+          (s .args .position) (s .pre .placed) (λ m. not (isCapture m)),
     )
 
 loop-less : tie.Need-loop-less Inv-loop μ-loop
@@ -107,12 +112,22 @@ returns c =
     let e = counted-all _ (p .mover) (x .loop .captures) (x .loop .left) (x .loop .inv .0) (c .loop-test .left) in
     let d = counted-all _ (p .mover) (x .loop .others) (x .loop .left) (x .loop .inv .1) (c .loop-test .left) in (
       (
-        e ∙ ap length (moves-kept (s .args .rings) p (s .pre .placed) (λ m. isCapture m)),
-        omega (arith, e, moves-few (s .args .rings) p (s .pre .placed) (λ m. isCapture m)),
+        e ∙ ap length (moves-kept (removable (s .args .edition)) (s .args .rings) p (s .pre .placed) (λ m. isCapture m)),
+        omega (
+          arith,
+          e,
+          moves-few (removable (s .args .edition)) (removable-takes (s .args .edition)) (removable-rising (s .args .edition))
+              (s .args .rings) p (s .pre .placed) (λ m. isCapture m),
+        ),
       ),
       (
-        d ∙ ap length (moves-kept (s .args .rings) p (s .pre .placed) (λ m. not (isCapture m))),
-        omega (arith, d, moves-few (s .args .rings) p (s .pre .placed) (λ m. not (isCapture m))),
+        d ∙ ap length (moves-kept (removable (s .args .edition)) (s .args .rings) p (s .pre .placed) (λ m. not (isCapture m))),
+        omega (
+          arith,
+          d,
+          moves-few (removable (s .args .edition)) (removable-takes (s .args .edition)) (removable-rising (s .args .edition))
+              (s .args .rings) p (s .pre .placed) (λ m. not (isCapture m)),
+        ),
       ),
     )
 

@@ -11,6 +11,8 @@ use Rattle.sets.proofs.Passing.{Counted, counted-none, counted-more, counted-al
 use Rattle.board.specs.Board.{boardOf}
 use Rattle.rules.specs.Ply.{removable, slideMoves}
 use Rattle.rules.specs.MoveList.{isCapture, captures, others}
+use Rattle.rules.proofs.Listed.{removable-takes}
+use Rattle.rules.proofs.Rises.{removable-rising}
 use Rattle.listing.proofs.MoveCounts.{stone-kept, stone-few}
 use Rattle.listing.proofs.SlideMoves.{captures-count, others-count}
 use Rattle.listing.proofs.count_stone.Statement.{statement}
@@ -21,12 +23,12 @@ byte-le true = omega arith
 byte-le false = omega arith
 
 abbrev Inv-loop : tie.InvT-loop
-Inv-loop rings masks position from tos captures₀ others₀ left₀ n k left =
-    Counted (λ to. captures (slideMoves (λ m b. removable m b) rings (boardOf (8 * rings) position) from to)) tos n left
-    × Counted (λ to. others (slideMoves (λ m b. removable m b) rings (boardOf (8 * rings) position) from to)) tos k left
+Inv-loop rings edition masks position from tos captures₀ others₀ left₀ n k left =
+    Counted (λ to. captures (slideMoves (removable edition) rings (boardOf (8 * rings) position) from to)) tos n left
+    × Counted (λ to. others (slideMoves (removable edition) rings (boardOf (8 * rings) position) from to)) tos k left
 
 abbrev μ-loop : tie.MeasureT-loop
-μ-loop rings masks position from tos captures₀ others₀ left₀ n k left = left
+μ-loop rings edition masks position from tos captures₀ others₀ left₀ n k left = left
 
 loop-holds : tie.Need-loop-holds Inv-loop μ-loop
 loop-holds c = (counted-none _ (c .args .tos) (c .fits .tos .fits), counted-none _ (c .args .tos) (c .fits .tos .fits))
@@ -50,7 +52,7 @@ stones-in-requires c κs = search needs
 found : (c : tie.After-removals Inv-loop μ-loop) → List ℕ
 found c =
     let a = c .before .before .before .before .args in
-    slideMoves (λ m b. removable m b) (a .rings) (boardOf (8 * a .rings) (a .position)) (a .from) (c .before .take-lowest .result .lowest)
+    slideMoves (removable (a .edition)) (a .rings) (boardOf (8 * a .rings) (a .position)) (a .from) (c .before .take-lowest .result .lowest)
 
 captures-found : (c : tie.After-stones-in Inv-loop μ-loop) → c .stones-in .result ≡ length (captures (found (c .before)))
 unfolding found
@@ -58,7 +60,8 @@ captures-found c =
     let r = c .before in
     let s = r .before .before .before .before in
     let a = s .args in
-    c .stones-in .ensures .0 ∙ captures-count (a .rings) (s .pre .0 .placed .small) (boardOf (8 * a .rings) (a .position)) (a .from) (r .before .take-lowest .result .lowest)
+    c .stones-in .ensures .0 ∙ captures-count (removable (a .edition)) (removable-takes (a .edition)) (removable-rising (a .edition)) (a .rings)
+    (s .pre .0 .placed .small) (boardOf (8 * a .rings) (a .position)) (a .from) (r .before .take-lowest .result .lowest)
     (r .removals .result) (r .removals .ensures)
 
 others-found : (c : tie.After-has Inv-loop μ-loop) → boolByte (c .has .result) ≡ length (others (found (c .before .before)))
@@ -67,7 +70,8 @@ others-found c =
     let r = c .before .before in
     let s = r .before .before .before .before in
     let a = s .args in
-    others-count (a .rings) (s .pre .0 .placed .small) (boardOf (8 * a .rings) (a .position)) (a .from) (r .before .take-lowest .result .lowest)
+    others-count (removable (a .edition)) (removable-takes (a .edition)) (removable-rising (a .edition)) (a .rings) (s .pre .0 .placed .small)
+    (boardOf (8 * a .rings) (a .position)) (a .from) (r .before .take-lowest .result .lowest)
     (r .removals .result) (r .removals .ensures) (c .has .result) (c .has .ensures)
 
 loop-again : tie.Need-loop-again Inv-loop μ-loop
@@ -91,7 +95,8 @@ add-captures c =
       arith,
       x .loop .inv .0 .total,
       c .stones-in .ensures .1,
-      stone-few (a .rings) (x .before .pre .0 .placed .small) (boardOf (8 * a .rings) (a .position)) (a .from) (λ m. isCapture m) (a .tos),
+      stone-few (removable (a .edition)) (removable-takes (a .edition)) (removable-rising (a .edition)) (a .rings) (x .before .pre .0 .placed .small)
+          (boardOf (8 * a .rings) (a .position)) (a .from) (λ m. isCapture m) (a .tos),
     )
 
 has-requires : tie.Need-has-requires Inv-loop μ-loop
@@ -108,7 +113,8 @@ add-others c =
       arith,
       x .loop .inv .1 .total,
       byte-le (c .has .result),
-      stone-few (a .rings) (x .before .pre .0 .placed .small) (boardOf (8 * a .rings) (a .position)) (a .from) (λ m. not (isCapture m)) (a .tos),
+      stone-few (removable (a .edition)) (removable-takes (a .edition)) (removable-rising (a .edition)) (a .rings) (x .before .pre .0 .placed .small)
+          (boardOf (8 * a .rings) (a .position)) (a .from) (λ m. not (isCapture m)) (a .tos),
     )
 
 loop-less : tie.Need-loop-less Inv-loop μ-loop
@@ -124,12 +130,22 @@ returns c =
     let d = counted-all _ (a .tos) (x .loop .others) (x .loop .left) (x .loop .inv .1) (c .loop-test .left) in
     let small = s .pre .0 .placed .small in (
       (
-        e ∙ ap length (stone-kept (a .rings) small b (a .from) (λ m. isCapture m) (a .tos)),
-        omega (arith, e, stone-few (a .rings) small b (a .from) (λ m. isCapture m) (a .tos)),
+        e ∙ ap length (stone-kept (removable (a .edition)) (a .rings) b (a .from) (λ m. isCapture m) (a .tos)),
+        omega (
+          arith,
+          e,
+          stone-few (removable (a .edition)) (removable-takes (a .edition)) (removable-rising (a .edition)) (a .rings) small b
+              (a .from) (λ m. isCapture m) (a .tos),
+        ),
       ),
       (
-        d ∙ ap length (stone-kept (a .rings) small b (a .from) (λ m. not (isCapture m)) (a .tos)),
-        omega (arith, d, stone-few (a .rings) small b (a .from) (λ m. not (isCapture m)) (a .tos)),
+        d ∙ ap length (stone-kept (removable (a .edition)) (a .rings) b (a .from) (λ m. not (isCapture m)) (a .tos)),
+        omega (
+          arith,
+          d,
+          stone-few (removable (a .edition)) (removable-takes (a .edition)) (removable-rising (a .edition)) (a .rings) small b
+              (a .from) (λ m. not (isCapture m)) (a .tos),
+        ),
       ),
     )
 

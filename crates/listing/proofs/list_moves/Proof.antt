@@ -12,7 +12,7 @@ use Rattle.sets.specs.Sets.{bit, elements}
 use Rattle.sets.proofs.Elements.{bit-low}
 use Rattle.sets.proofs.Dealt.{Dealt, dealt-none, dealt-room, dealt-more, dealt-all}
 use Rattle.board.specs.Board.{boardOf}
-use Rattle.rules.specs.Ply.{destinations, removable, stoneMoves, legalMoves}
+use Rattle.rules.specs.Ply.{destinations, removable, stoneMoves, moves}
 use Rattle.rules.specs.MoveList.{isCapture, captures, others}
 use Rattle.rules.proofs.CapturesFirst.{listed-are, listed-total}
 use Rattle.plies.proofs.OnPositions.{mover-small}
@@ -23,18 +23,18 @@ use Rattle.listing.proofs.list_moves.Statement.{statement}
 use Rattle.listing.proofs.list_moves.Tie as tie
 
 abbrev Inv-loop : tie.InvT-loop
-Inv-loop rings masks position start list₀ at₀ left₀ list at left =
-    Dealt (λ from. captures (stoneMoves (λ m b. removable m b) rings (boardOf (8 * rings) position) from
+Inv-loop rings edition masks position start list₀ at₀ left₀ list at left =
+    Dealt (λ from. captures (stoneMoves (removable edition) rings (boardOf (8 * rings) position) from
     (destinations rings (boardOf (8 * rings) position) from)))
-    (λ from. others (stoneMoves (λ m b. removable m b) rings (boardOf (8 * rings) position) from
+    (λ from. others (stoneMoves (removable edition) rings (boardOf (8 * rings) position) from
     (destinations rings (boardOf (8 * rings) position) from))) list₀ 0 start (position .mover) list (at .captures) (at .others) left
 
 abbrev μ-loop : tie.MeasureT-loop
-μ-loop rings masks position start list₀ at₀ left₀ list at left = left
+μ-loop rings edition masks position start list₀ at₀ left₀ list at left = left
 
 -- the moves of the position
 abbrev legal : tie.Start Inv-loop μ-loop → List ℕ
-legal c = legalMoves (c .args .rings) (boardOf (8 * c .args .rings) (c .args .position))
+legal c = moves (removable (c .args .edition)) (c .args .rings) (boardOf (8 * c .args .rings) (c .args .position))
 
 -- it is one of the mover's
 own : (c : tie.After-take-lowest Inv-loop μ-loop) → bit (c .before .before .before .before .args .position .mover) (c .take-lowest .result .lowest) ≡ 1
@@ -44,14 +44,16 @@ own c =
 
 -- its moves are those to the set of its destinations
 found : (c : tie.After-destinations Inv-loop μ-loop)
-    → stoneMoves (λ m b. removable m b) (c .before .before .before .before .before .args .rings)
+    → stoneMoves (removable (c .before .before .before .before .before .args .edition)) (c .before .before .before .before .before .args .rings)
     (boardOf (8 * c .before .before .before .before .before .args .rings) (c .before .before .before .before .before .args .position))
     (c .before .take-lowest .result .lowest) (elements 32 (c .destinations .result))
-    ≡ fromStone (c .before .before .before .before .before .args .rings) (c .before .before .before .before .before .args .position)
+    ≡ fromStone (removable (c .before .before .before .before .before .args .edition)) (c .before .before .before .before .before .args .rings)
+    (c .before .before .before .before .before .args .position)
     (c .before .before .before .before .before .pre .0 .placed) (c .before .take-lowest .result .lowest)
 found c =
     let s = c .before .before .before .before .before in
-    stone-given (s .args .rings) (s .args .position) (s .pre .0 .placed) (c .before .take-lowest .result .lowest) (c .destinations .result)
+    stone-given (removable (s .args .edition)) (s .args .rings) (s .args .position) (s .pre .0 .placed) (c .before .take-lowest .result .lowest)
+    (c .destinations .result)
     (c .destinations .ensures)
 
 loop-holds : tie.Need-loop-holds Inv-loop μ-loop
@@ -59,7 +61,7 @@ loop-holds c =
     let s = c .before in
     let a = s .args in
     dealt-none _ _ (a .list .now) 0 (a .others) (a .position .mover) (mover-fits (a .rings) (a .position) (s .pre .0 .placed))
-    (omega (arith, s .pre .1 .0, ap length (moves-kept (a .rings) (a .position) (s .pre .0 .placed) (λ m. isCapture m))))
+    (omega (arith, s .pre .1 .0, ap length (moves-kept (removable (a .edition)) (a .rings) (a .position) (s .pre .0 .placed) (λ m. isCapture m))))
 
 take-lowest-requires : tie.Need-take-lowest-requires Inv-loop μ-loop
 take-lowest-requires c κs = c .loop-test .taken
@@ -84,7 +86,7 @@ list-stone-requires c κs =
       s .pre .1 .0,
       s .pre .1 .1,
       listed-total (legal s),
-      ap length (moves-kept (a .rings) (a .position) (s .pre .0 .placed) (λ m. not (isCapture m))),
+      ap length (moves-kept (removable (a .edition)) (a .rings) (a .position) (s .pre .0 .placed) (λ m. not (isCapture m))),
     )) in (
       s .pre .0,
       (
@@ -121,7 +123,7 @@ returns c =
     let s = x .before .before in
     let a = s .args in
     let r = dealt-all _ _ (a .list .now) 0 (a .others) (a .position .mover) (x .loop .inv) (c .loop-test .left) in
-    let kept = moves-kept (a .rings) (a .position) (s .pre .0 .placed) in
+    let kept = moves-kept (removable (a .edition)) (a .rings) (a .position) (s .pre .0 .placed) in
     r .2 ∙ ap₂ (λ (l m : List ℕ). sets (sets (a .list .now) 0 l) (a .others) m) (kept (λ m. isCapture m)) (kept (λ m. not (isCapture m)))
     ∙ ap (λ (n : ℕ). sets (sets (a .list .now) 0 (captures (legal s))) n (others (legal s))) (s .pre .1 .0 ∙ sym (zero-add (length (captures (legal s)))))
     ∙ sym (sets-append (a .list .now) 0 (captures (legal s)) (others (legal s))) ∙ ap (sets (a .list .now) 0) (sym (listed-are (legal s)))

@@ -13,6 +13,8 @@ use Rattle.sets.proofs.Dealt.{Dealt, dealt-none, dealt-room, dealt-more, dealt-
 use Rattle.board.specs.Board.{boardOf}
 use Rattle.rules.specs.Ply.{removable, slideMoves}
 use Rattle.rules.specs.MoveList.{isCapture, captures, others}
+use Rattle.rules.proofs.Listed.{removable-takes}
+use Rattle.rules.proofs.Rises.{removable-rising}
 use Rattle.plies.specs.Inner.Positions.{Slide}
 use Rattle.plies.proofs.OnPositions.{from-low}
 use Rattle.listing.proofs.MoveCounts.{stone-kept}
@@ -21,12 +23,12 @@ use Rattle.listing.proofs.list_stone.Statement.{statement}
 use Rattle.listing.proofs.list_stone.Tie as tie
 
 abbrev Inv-loop : tie.InvT-loop
-Inv-loop rings masks position from tos list₀ captures₀ others₀ left₀ list k j left =
-    Dealt (λ to. captures (slideMoves (λ m b. removable m b) rings (boardOf (8 * rings) position) from to))
-    (λ to. others (slideMoves (λ m b. removable m b) rings (boardOf (8 * rings) position) from to)) list₀ captures₀ others₀ tos list k j left
+Inv-loop rings edition masks position from tos list₀ captures₀ others₀ left₀ list k j left =
+    Dealt (λ to. captures (slideMoves (removable edition) rings (boardOf (8 * rings) position) from to))
+    (λ to. others (slideMoves (removable edition) rings (boardOf (8 * rings) position) from to)) list₀ captures₀ others₀ tos list k j left
 
 abbrev μ-loop : tie.MeasureT-loop
-μ-loop rings masks position from tos list₀ captures₀ others₀ left₀ list k j left = left
+μ-loop rings edition masks position from tos list₀ captures₀ others₀ left₀ list k j left = left
 
 -- it is vacant
 slides : (c : tie.After-take-lowest Inv-loop μ-loop)
@@ -50,7 +52,7 @@ low c =
 -- its moves
 abbrev moved : tie.After-removals Inv-loop μ-loop → List ℕ
 moved c =
-    slideMoves (λ m b. removable m b) (c .before .before .before .before .before .args .rings)
+    slideMoves (removable (c .before .before .before .before .before .args .edition)) (c .before .before .before .before .before .args .rings)
     (boardOf (8 * c .before .before .before .before .before .args .rings) (c .before .before .before .before .before .args .position))
     (c .before .before .before .before .before .args .from) (c .before .take-lowest .result .lowest)
 
@@ -63,7 +65,8 @@ captures-found c =
     let s = r .before .before .before .before .before in
     let a = s .args in
     ap₂ (λ (n x : ℕ). map (λ p. n + p) (elements 32 x)) (c .slide-number .ensures) (w .without .ensures)
-    ∙ captures-from (a .rings) (s .pre .0 .placed .small) (boardOf (8 * a .rings) (a .position)) (a .from) (r .before .take-lowest .result .lowest)
+    ∙ captures-from (removable (a .edition)) (removable-takes (a .edition)) (removable-rising (a .edition)) (a .rings) (s .pre .0 .placed .small)
+    (boardOf (8 * a .rings) (a .position)) (a .from) (r .before .take-lowest .result .lowest)
     (r .removals .result) (r .removals .ensures)
 
 others-found : (c : tie.After-slide-number Inv-loop μ-loop)
@@ -75,7 +78,8 @@ others-found c =
     let s = r .before .before .before .before .before in
     let a = s .args in
     ap₂ (λ (n x : ℕ). map (λ p. n + p) (elements 32 (r .removals .result - x))) (c .slide-number .ensures) (w .without .ensures)
-    ∙ others-from (a .rings) (s .pre .0 .placed .small) (boardOf (8 * a .rings) (a .position)) (a .from) (r .before .take-lowest .result .lowest)
+    ∙ others-from (removable (a .edition)) (removable-takes (a .edition)) (removable-rising (a .edition)) (a .rings) (s .pre .0 .placed .small)
+    (boardOf (8 * a .rings) (a .position)) (a .from) (r .before .take-lowest .result .lowest)
     (r .removals .result) (r .removals .ensures)
 
 -- how many they are
@@ -102,7 +106,7 @@ room c =
     (omega (
       arith,
       s .pre .1 .1 .others-fit,
-      ap length (stone-kept (a .rings) (s .pre .0 .placed .small) (boardOf (8 * a .rings) (a .position)) (a .from) (λ m. not (isCapture m)) (a .tos)),
+      ap length (stone-kept (removable (a .edition)) (a .rings) (boardOf (8 * a .rings) (a .position)) (a .from) (λ m. not (isCapture m)) (a .tos)),
     ))
 
 loop-holds : tie.Need-loop-holds Inv-loop μ-loop
@@ -113,7 +117,7 @@ loop-holds c =
     (omega (
       arith,
       s .pre .1 .1 .captures-fit,
-      ap length (stone-kept (a .rings) (s .pre .0 .placed .small) (boardOf (8 * a .rings) (a .position)) (a .from) (λ m. isCapture m) (a .tos)),
+      ap length (stone-kept (removable (a .edition)) (a .rings) (boardOf (8 * a .rings) (a .position)) (a .from) (λ m. isCapture m) (a .tos)),
     ))
 
 take-lowest-requires : tie.Need-take-lowest-requires Inv-loop μ-loop
@@ -189,8 +193,8 @@ returns c =
     let a = s .args in
     let b : List ℕ = boardOf (8 * a .rings) (a .position) in
     let r = dealt-all _ _ (a .list .now) (a .at .captures) (a .at .others) (a .tos) (x .loop .inv) (c .loop-test .left) in
-    let e = stone-kept (a .rings) (s .pre .0 .placed .small) b (a .from) (λ m. isCapture m) (a .tos) in
-    let d = stone-kept (a .rings) (s .pre .0 .placed .small) b (a .from) (λ m. not (isCapture m)) (a .tos) in (
+    let e = stone-kept (removable (a .edition)) (a .rings) b (a .from) (λ m. isCapture m) (a .tos) in
+    let d = stone-kept (removable (a .edition)) (a .rings) b (a .from) (λ m. not (isCapture m)) (a .tos) in (
       r .0 ∙ ap (λ (l : List ℕ). a .at .captures + length l) e,
       (
         r .1 ∙ ap (λ (l : List ℕ). a .at .others + length l) d,

@@ -3,10 +3,8 @@ use mathlib.Core.Path.{sym, ap, ap₂, _∙_}
 use Prim.Native.Nat.{ℕ, _/_, _%_}
 use native.Mathlib.Omega.{arith}
 use Rattle.sets.specs.Sets.{with}
-use Rattle.sets.proofs.Elements.{bit-low}
 use Rattle.board.specs.declared.Position.{Position}
-use Rattle.plies.proofs.OnPositions.{mover-small}
-use Rattle.making.proofs.Numbers.{from-listed, after-sets}
+use Rattle.making.proofs.Numbers.{after-sets}
 use borrow.Author.Needs.{needs}
 use Rattle.making.proofs.after_ply.Statement.{statement}
 use Rattle.making.proofs.after_ply.Tie as tie
@@ -17,12 +15,7 @@ without-requires c κs = search needs
 without-requires-2 : tie.Need-without-requires-2
 without-requires-2 c κs =
     let s = c .before in
-    let a = s .args in
-    omega (
-      arith,
-      bit-low 24 (a .position .mover) (a .number / 1024) (mover-small (a .rings) (a .position) (s .pre .0))
-          (from-listed (a .rings) (a .position) (s .pre .0) (a .number) (s .pre .1)),
-    )
+    omega (arith, s .pre .1 .from-low, s .pre .0 .small)
 
 with-requires : tie.Need-with-requires
 with-requires c κs = search needs

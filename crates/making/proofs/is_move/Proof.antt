@@ -9,7 +9,8 @@ use Rattle.lists.proofs.Tests.{untrue, same-test}
 use Rattle.sets.specs.Sets.{bit, setFrom}
 use Rattle.sets.proofs.Elements.{bit-low}
 use Rattle.board.specs.Board.{boardOf}
-use Rattle.rules.specs.Ply.{destinations}
+use Rattle.rules.specs.Ply.{destinations, removable}
+use Rattle.rules.proofs.Listed.{removable-takes}
 use Rattle.plies.proofs.OnPositions.{mover-small}
 use Rattle.plies.proofs.StoneMoves.{destinations-vacant}
 use Rattle.making.proofs.Numbers.{from-listed, to-listed, removed-listed, all-listed}
@@ -38,7 +39,8 @@ returns c =
     let s = c .before in
     let a = s .args in
     untrue _ (λ e. let h = bit-low 24 (a .position .mover) (a .number / 1024) (mover-small (a .rings) (a .position) (s .pre .placed))
-    (from-listed (a .rings) (a .position) (s .pre .placed) (a .number) e) in absurd (omega (arith, h, c .if1 .taken)))
+    (from-listed (removable (a .edition)) (removable-takes (a .edition)) (a .rings) (a .position) (s .pre .placed) (a .number) e) in absurd
+    (omega (arith, h, c .if1 .taken)))
 
 has-requires : tie.Need-has-requires
 has-requires c κs = search needs
@@ -64,21 +66,24 @@ returns-2 c =
     let s = t .before .before .before .before .before .before in
     let a = s .args in
     let e : c .has3 .result ≡ _ = c .has3 .ensures ∙ ap (λ (x : ℕ). eqb (bit x (a .number % 32)) 1) (c .before .removals .ensures) in
-    e ∙ same-test _ _ (λ h. all-listed (a .rings) (a .position) (s .pre .placed) (a .number) (own t) (reached t) (eqb-true _ 1 h))
-    (λ h. eq-eqb _ 1 (removed-listed (a .rings) (a .position) (s .pre .placed) (a .number) h))
+    e ∙ same-test _ _ (λ h. all-listed (removable (a .edition)) (removable-takes (a .edition)) (a .rings) (a .position) (s .pre .placed) (a .number)
+    (own t) (reached t) (eqb-true _ 1 h))
+    (λ h. eq-eqb _ 1 (removed-listed (removable (a .edition)) (removable-takes (a .edition)) (a .rings) (a .position) (s .pre .placed) (a .number) h))
 
 returns-3 : tie.Need-returns-3
 returns-3 c =
     let s = c .before .before .before .before .before .before in
     let a = s .args in
-    untrue _ (λ e. true≢false (sym (eq-eqb _ 1 (to-listed (a .rings) (a .position) (s .pre .placed) (a .number) e))
+    untrue _ (λ e. true≢false (sym (eq-eqb _ 1
+    (to-listed (removable (a .edition)) (removable-takes (a .edition)) (a .rings) (a .position) (s .pre .placed) (a .number) e))
     ∙ ap (λ (x : ℕ). eqb (bit x (a .number / 32 % 32)) 1) (sym (c .before .before .destinations .ensures)) ∙ sym (c .before .has2 .ensures) ∙ c .if3 .left))
 
 returns-4 : tie.Need-returns-4
 returns-4 c =
     let s = c .before .before .before in
     let a = s .args in
-    untrue _ (λ e. true≢false (sym (eq-eqb _ 1 (from-listed (a .rings) (a .position) (s .pre .placed) (a .number) e))
+    untrue _ (λ e. true≢false (sym (eq-eqb _ 1
+    (from-listed (removable (a .edition)) (removable-takes (a .edition)) (a .rings) (a .position) (s .pre .placed) (a .number) e))
     ∙ sym (c .before .has .ensures) ∙ c .if2 .left))
 
 pub is-move-spec : {M : Type 1} → statement M

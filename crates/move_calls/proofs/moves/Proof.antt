@@ -1,4 +1,4 @@
--- `move_calls::moves` meets its contract: a refusal of the board, then of the list, or the moves. Assumes nothing.
+-- `move_calls::moves` meets its contract: a refusal of rings, edition or board, then of the list, or the moves. Assumes nothing.
 use mathlib.Core.Path.{_≡_, sym, ap, ap₂, _∙_}
 use mathlib.Core.Bool.{Bool, cond}
 use mathlib.Core.List.{[], _∷_}
@@ -9,16 +9,29 @@ use lib.Seq.{sets}
 use borrow.Author.Tests.{lt-ltb, le-ltb}
 use borrow.Author.Needs.{needs}
 use Rattle.board.specs.Board.{boardOf}
+use Rattle.rules.specs.Ply.{removable}
 use Rattle.rules.specs.MoveList.{capturesFirst, listedMoves}
 use Rattle.rules.proofs.CapturesFirst.{listed-total}
 use Rattle.refusals.specs.Refusals.{refusal}
-use Rattle.refusals.specs.Conditions.{boardPicks}
+use Rattle.refusals.specs.Conditions.{ruledPicks}
 use Rattle.move_calls.specs.MovesCall.{movesCall, movesList}
-use Rattle.refusals.proofs.Conditions.{Accepted, accepted-board, short-refused, short-decides, few-points}
+use Rattle.refusals.proofs.Conditions.{Accepted, ruled-board, list-refused, list-decides, few-points}
 use Rattle.positions.proofs.Positions.{ShowsBoard, board-shown}
 use Rattle.answers.proofs.Answering.{turned-back, written}
 use Rattle.move_calls.proofs.moves.Statement.{statement}
 use Rattle.move_calls.proofs.moves.Tie as tie
+
+of-ruled-requires : tie.Need-of-ruled-requires
+of-ruled-requires c κs = search needs
+
+returns : tie.Need-returns
+unfolding movesCall movesList
+returns c =
+    let a = c .before .before .before .before .args in
+    let n = c .before .of-ruled .result in
+    turned-back _ _ _ _ n (c .if1 .taken)
+    (list-refused (a .rings) (a .edition) (a .board .now) (length (a .list .now)) (length (listedMoves (removable (a .edition)) (a .rings) (a .board .now))) n (c .if1 .taken)
+    (c .before .of-ruled .ensures))
 
 -- the start of the call, seen from past its first refusals; and those passed, seen from where the position is known
 abbrev started : tie.Else1 → tie.Start
@@ -28,37 +41,27 @@ abbrev placing : tie.After-position-of → tie.Else1
 placing c = c .before .before
 
 -- past the first refusals the board is accepted, and its position shows it
-passed-board : (c : tie.Else1) → 0 ≡ refusal (boardPicks (started c .args .rings) (started c .args .board .now))
-passed-board c = sym (c .if1 .left) ∙ c .before .of-board .ensures
+passed-board : (c : tie.Else1) → 0 ≡ refusal (ruledPicks (started c .args .rings) (started c .args .edition) (started c .args .board .now))
+passed-board c = sym (c .if1 .left) ∙ c .before .of-ruled .ensures
 
 board : (c : tie.Else1) → Accepted (started c .args .rings) (started c .args .board .now)
-board c = accepted-board _ _ (sym (passed-board c))
+board c = ruled-board _ (started c .args .edition) _ (sym (passed-board c))
 
 shows : (c : tie.After-position-of) → ShowsBoard (started (placing c) .args .rings) (started (placing c) .args .board .now) (c .position-of .result)
 shows c = board-shown _ _ (board (placing c)) _ (c .position-of .ensures)
 
 -- the list of its position's moves is its own, and so many were counted
 listed-back : (c : tie.After-position-of)
-    → listedMoves (started (placing c) .args .rings) (boardOf (8 * started (placing c) .args .rings) (c .position-of .result))
-    ≡ listedMoves (started (placing c) .args .rings) (started (placing c) .args .board .now)
-listed-back c = ap capturesFirst (shows c .moves-back)
+    → listedMoves (removable (started (placing c) .args .edition)) (started (placing c) .args .rings)
+    (boardOf (8 * started (placing c) .args .rings) (c .position-of .result))
+    ≡ listedMoves (removable (started (placing c) .args .edition)) (started (placing c) .args .rings) (started (placing c) .args .board .now)
+listed-back c = ap capturesFirst (shows c .moves-back (removable (started (placing c) .args .edition)))
 
 counted : (c : tie.After-count-moves) → c .count-moves .result .captures + c .count-moves .result .others
-    ≡ length (listedMoves (started (placing (c .before .before)) .args .rings) (started (placing (c .before .before)) .args .board .now))
+    ≡ length (listedMoves (removable (started (placing (c .before .before)) .args .edition)) (started (placing (c .before .before)) .args .rings)
+    (started (placing (c .before .before)) .args .board .now))
 counted c =
     ap₂ _+_ (c .count-moves .ensures .0 .0) (c .count-moves .ensures .1 .0) ∙ listed-total _ ∙ ap length (listed-back (c .before .before))
-
-of-board-requires : tie.Need-of-board-requires
-of-board-requires c κs = search needs
-
-returns : tie.Need-returns
-unfolding movesCall movesList
-returns c =
-    let a = c .before .before .before .before .args in
-    let n = c .before .of-board .result in
-    turned-back _ _ _ _ n (c .if1 .taken)
-    (short-refused (a .rings) (a .board .now) (length (a .list .now)) (length (listedMoves (a .rings) (a .board .now))) n (c .if1 .taken)
-    (c .before .of-board .ensures))
 
 masks-of-requires : tie.Need-masks-of-requires
 masks-of-requires c κs = board c .rings-high
@@ -79,10 +82,10 @@ returns-2 c =
     let p = n .before .before in
     let x = placing p in
     let a = started x .args in
-    let m = length (listedMoves (a .rings) (a .board .now)) in
+    let m = length (listedMoves (removable (a .edition)) (a .rings) (a .board .now)) in
     let short = lt-ltb (length (a .list .now)) m (omega (arith, c .if2 .taken, counted n)) in
     turned-back _ _ _ _ 7 (λ z. absurd (omega arith))
-    (sym (short-decides (a .rings) (a .board .now) (length (a .list .now)) m (passed-board x) ∙ ap (λ (t : Bool). cond t 7 0) short))
+    (sym (list-decides (a .rings) (a .edition) (a .board .now) (length (a .list .now)) m (passed-board x) ∙ ap (λ (t : Bool). cond t 7 0) short))
 
 list-moves-requires : tie.Need-list-moves-requires
 list-moves-requires c κs =
@@ -104,10 +107,10 @@ returns-3 c =
     let p = n .before .before in
     let x = placing p in
     let a = started x .args in
-    let m = length (listedMoves (a .rings) (a .board .now)) in
+    let m = length (listedMoves (removable (a .edition)) (a .rings) (a .board .now)) in
     let fits = le-ltb (length (a .list .now)) m (omega (arith, e .if2 .left, counted n)) in
     written _ _ _ _ _ _
-    (sym (short-decides (a .rings) (a .board .now) (length (a .list .now)) m (passed-board x) ∙ ap (λ (t : Bool). cond t 7 0) fits))
+    (sym (list-decides (a .rings) (a .edition) (a .board .now) (length (a .list .now)) m (passed-board x) ∙ ap (λ (t : Bool). cond t 7 0) fits))
     (ap (λ (k : ℕ). k ∷ []) (counted n))
     (c .before .before .list-moves .ensures ∙ ap (sets (a .list .now) 0) (listed-back p))
 
@@ -115,7 +118,7 @@ pub moves-spec : {M : Type 1} → statement M
 moves-spec =
     tie.close
     (tie.spec
-    of-board-requires
+    of-ruled-requires
     returns
     masks-of-requires
     position-of-requires

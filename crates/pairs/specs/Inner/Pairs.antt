@@ -5,6 +5,7 @@ use mathlib.Core.Logic.{_⊎_}
 use Prim.Native.Nat.{ℕ, _*_, _≤_, _<_}
 use lib.Dec.{eqb}
 use Rattle.sizes.specs.Size.{size}
+use Rattle.rules.specs.Ply.{Rule}
 use Rattle.game.specs.Game.{voidEntry}
 use Rattle.parts.specs.declared.Part.{Part}
 use Rattle.parts.specs.Parts.{filledPart}
@@ -39,20 +40,20 @@ pairBlocked rings a b tablebase = elim (eqb (a .mover) (a .opponent)) [
 ]
 
 -- and at a level above 0, by classes
-unfoldable pub pairByClasses : ℕ → Table → Table → ℕ → ℕ → (List ℕ → Bool) → List ℕ → List ℕ
-pairByClasses rings a b level maps picked tablebase = elim (eqb (a .mover) (a .opponent)) [
-  | true ↦ levelByClasses rings a (b .own .start) level maps picked tablebase
-  | false ↦ levelByClasses rings b (a .own .start) level maps picked (levelByClasses rings a (b .own .start) level maps picked tablebase)
+unfoldable pub pairByClasses : Rule → ℕ → Table → Table → ℕ → ℕ → (List ℕ → Bool) → List ℕ → List ℕ
+pairByClasses rule rings a b level maps picked tablebase = elim (eqb (a .mover) (a .opponent)) [
+  | true ↦ levelByClasses rule rings a (b .own .start) level maps picked tablebase
+  | false ↦ levelByClasses rule rings b (a .own .start) level maps picked (levelByClasses rule rings a (b .own .start) level maps picked tablebase)
 ]
 
 -- whether some open position of a pair is decided by its successors
-abbrev pub PairFound : ℕ → Table → Table → List ℕ → Bool → Type 0
-PairFound rings a b tablebase true =
-    Found (openDecided rings a (b .own .start) tablebase) (size (8 * rings) (a .mover) (a .opponent)) true
-    ⊎ Found (openDecided rings b (a .own .start) tablebase) (size (8 * rings) (b .mover) (b .opponent)) true
-PairFound rings a b tablebase false =
-    Found (openDecided rings a (b .own .start) tablebase) (size (8 * rings) (a .mover) (a .opponent)) false
-    × Found (openDecided rings b (a .own .start) tablebase) (size (8 * rings) (b .mover) (b .opponent)) false
+abbrev pub PairFound : Rule → ℕ → Table → Table → List ℕ → Bool → Type 0
+PairFound rule rings a b tablebase true =
+    Found (openDecided rule rings a (b .own .start) tablebase) (size (8 * rings) (a .mover) (a .opponent)) true
+    ⊎ Found (openDecided rule rings b (a .own .start) tablebase) (size (8 * rings) (b .mover) (b .opponent)) true
+PairFound rule rings a b tablebase false =
+    Found (openDecided rule rings a (b .own .start) tablebase) (size (8 * rings) (a .mover) (a .opponent)) false
+    × Found (openDecided rule rings b (a .own .start) tablebase) (size (8 * rings) (b .mover) (b .opponent)) false
 
 -- a level over the tables of a pair
 pub record PairSweeping (lent : List ℕ) (length : ℕ) (maps : Maps) (tables : Tables) (level : ℕ) : Type 0 where

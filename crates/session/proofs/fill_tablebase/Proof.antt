@@ -1,4 +1,4 @@
--- `session::fill_tablebase` fills as document 01 asks of `desk`: K 5 and limit 2,000. Assumes nothing.
+-- `session::fill_tablebase` fills as the papers ask of `desk`: edition 1, K 5 and limit 2,000. Assumes nothing.
 use borrow.Author.Needs.{needs}
 use Rattle.session.proofs.fill_tablebase.Statement.{statement}
 use Rattle.session.proofs.fill_tablebase.Tie as tie

@@ -6,6 +6,7 @@ use lib.ListN.{length}
 use Rattle.board.specs.Board.{count, boardOf}
 use Rattle.sizes.specs.Size.{size}
 use Rattle.ranking.proofs.Inverse.{rank-unrank}
+use Rattle.rules.specs.Ply.{removable}
 use Rattle.deciding.proofs.AtRank.{AtRank, at-rank, hit-at}
 use Rattle.settling.proofs.Judged.{judged-hit, judged-miss}
 use borrow.Author.Needs.{needs}
@@ -39,9 +40,11 @@ returns c =
     let a = s .args in
     let w = found s in
     c .before .before .write-images .ensures
-    ∙ judged-hit (a .maps .rings) (a .sweep .table) (a .sweep .same) (a .sweep .level) (a .maps .count) (a .at .rank) (a .tablebase .now)
+    ∙ judged-hit (removable (a .sweep .edition)) (a .maps .rings) (a .sweep .table) (a .sweep .same) (a .sweep .level) (a .maps .count) (a .at .rank)
+    (a .tablebase .now)
     (s .pre .1 .1 .marked)
-    (sym (hit-at (a .maps .rings) (a .sweep .table) (a .sweep .same) (a .at .rank) (a .tablebase .now) (length (a .tablebase .now))
+    (sym (hit-at (removable (a .sweep .edition)) (a .maps .rings) (a .sweep .table) (a .sweep .same) (a .at .rank) (a .tablebase .now)
+    (length (a .tablebase .now))
     (a .at .position) w (a .sweep .level))
     ∙ sym (t .before .hits .ensures) ∙ t .if1 .taken) (boardOf (8 * a .maps .rings) (a .at .position)) (w .board-is)
 
@@ -78,9 +81,11 @@ returns-2 c =
     let a = s .args in
     let w = found s in
     c .before .before .write-entry .ensures
-    ∙ judged-miss (a .maps .rings) (a .sweep .table) (a .sweep .same) (a .sweep .level) (a .maps .count) (a .at .rank) (a .tablebase .now)
+    ∙ judged-miss (removable (a .sweep .edition)) (a .maps .rings) (a .sweep .table) (a .sweep .same) (a .sweep .level) (a .maps .count) (a .at .rank)
+    (a .tablebase .now)
     (s .pre .1 .1 .marked)
-    (sym (hit-at (a .maps .rings) (a .sweep .table) (a .sweep .same) (a .at .rank) (a .tablebase .now) (length (a .tablebase .now))
+    (sym (hit-at (removable (a .sweep .edition)) (a .maps .rings) (a .sweep .table) (a .sweep .same) (a .at .rank) (a .tablebase .now)
+    (length (a .tablebase .now))
     (a .at .position) w (a .sweep .level))
     ∙ sym (t .before .hits .ensures) ∙ t .if1 .left)
 

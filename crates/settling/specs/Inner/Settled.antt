@@ -9,9 +9,9 @@ use lib.ListN.{getD, set}
 use Rattle.board.specs.Board.{positionOf}
 use Rattle.sizes.specs.Size.{size}
 use Rattle.ranking.specs.Unrank.{unrank}
+use Rattle.rules.specs.Ply.{Rule, successors}
 use Rattle.game.specs.Game.{drawEntry, voidEntry}
 use Rattle.game.specs.Judgement.{hit}
-use Rattle.outcomes.specs.Whole.{next}
 use Rattle.classing.specs.declared.Maps.{Maps}
 use Rattle.imaging.specs.Inner.Images.{RingImages}
 use Rattle.classing.specs.Inner.Classes.{imagesWritten}
@@ -38,11 +38,11 @@ pub record AtMark (rings : ℕ) (t : Table) (tablebase : List ℕ) (at : Cursor)
   pub position-is : at .position ≡ positionOf (unrank (8 * rings) (t .mover) (t .opponent) (at .rank))
   pub marked : isMarked t tablebase (at .rank) ≡ true
 
-module _ (rings : ℕ) (t : Table) (same level maps : ℕ) where
+module _ (rule : Rule) (rings : ℕ) (t : Table) (same level maps : ℕ) where
   -- a marked position that is hit gets the level, with all its images; one that is not is open again
   unfoldable pub judgedClass : List ℕ → ℕ → List ℕ
   judgedClass tablebase r = elim (isMarked t tablebase r) [
-    | true ↦ elim (hit (next rings) (judged rings t same tablebase) level (boardAt rings t same r)) [
+    | true ↦ elim (hit (successors rule rings) (judged rings t same tablebase) level (boardAt rings t same r)) [
       | true ↦ imagesWritten rings (t .own .start) (boardAt rings t same r) level tablebase maps
       | false ↦ set tablebase (t .own .start + r) drawEntry
     ]

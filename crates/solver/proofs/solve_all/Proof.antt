@@ -14,12 +14,14 @@ use Rattle.outcomes.proofs.Order.{done-first, done-all}
 use Rattle.parts.proofs.Filling.{filled-length, filled-in}
 use Rattle.solver.specs.Inner.Solve.{PairsFilled}
 use borrow.Author.Needs.{needs}
+use Rattle.rules.specs.Ply.{removable}
 use Rattle.solver.proofs.solve_all.Statement.{statement}
 use Rattle.solver.proofs.solve_all.Tie as tie
 
 abbrev Inv-loop : tie.InvT-loop
 Inv-loop tablebase₀ binomials masks images bounds maps k deep₀ m₀ tablebase deep m =
-    (3 ≤ m) × (length tablebase ≡ length tablebase₀) × PairsFilled (bounds .rings) (bounds .k) (bounds .limit) m 3 tablebase deep
+    (3 ≤ m) × (length tablebase ≡ length tablebase₀) × PairsFilled (removable (bounds .edition)) (bounds .rings) (bounds .k) (bounds .limit) m 3
+    tablebase deep
 
 abbrev μ-loop : tie.MeasureT-loop
 μ-loop tablebase₀ binomials masks images bounds maps k deep₀ m₀ tablebase deep m = k + 1 - m
@@ -50,8 +52,12 @@ all-maps-requires c κs = search needs
 
 loop-holds : tie.Need-loop-holds Inv-loop μ-loop
 loop-holds c =
-    let s = c .before .before in
-    (omega arith, refl, done-first (s .args .bounds .rings) (s .args .bounds .k) (s .args .bounds .limit) (s .args .tablebase .now))
+    let s = c .before .before in (
+      omega arith,
+      refl,
+      done-first (removable (s .args .bounds .edition)) (s .args .bounds .rings) (s .args .bounds .k) (s .args .bounds .limit)
+          (s .args .tablebase .now),
+    )
 
 solve-row-requires : tie.Need-solve-row-requires Inv-loop μ-loop
 solve-row-requires c κs =
@@ -71,7 +77,8 @@ solve-row-requires c κs =
         };
         few = h .few;
         room = x .loop .inv .1 ∙ h .room;
-        done = subst (PairsFilled (s .args .bounds .rings) (s .args .bounds .k) (s .args .bounds .limit) (x .loop .m) 3 (x .loop .tablebase))
+        done = subst (PairsFilled (removable (s .args .bounds .edition)) (s .args .bounds .rings) (s .args .bounds .k) (s .args .bounds .limit)
+            (x .loop .m) 3 (x .loop .tablebase))
             (none-deep (x .loop .m) (s .args .bounds .k) (x .loop .deep) t)
             (x .loop .inv .2);
         limit-low = h .limit-low;
@@ -126,8 +133,10 @@ returns c =
     let x = at-end c in
     let s = entered x in
     let after = c .before .before .fill-table .last .0 in
-    deep-void (s .args .bounds .rings) (s .args .bounds .k) (s .args .bounds .limit) (s .args .tablebase .now) after (s .pre .1 .room) (same-length c)
-    (subst (PairsFilled (s .args .bounds .rings) (s .args .bounds .k) (s .args .bounds .limit) (x .loop .m) 3 (x .loop .tablebase))
+    deep-void (removable (s .args .bounds .edition)) (s .args .bounds .rings) (s .args .bounds .k) (s .args .bounds .limit) (s .args .tablebase .now)
+    after (s .pre .1 .room) (same-length c)
+    (subst (PairsFilled (removable (s .args .bounds .edition)) (s .args .bounds .rings) (s .args .bounds .k) (s .args .bounds .limit) (x .loop .m) 3
+    (x .loop .tablebase))
     (c .before .before .before .before .if1 .taken)
     (x .loop .inv .2))
     (λ j l. voided c .1 j l)
@@ -140,10 +149,11 @@ returns-2 c =
     let x = c .before .before in
     let s = entered x in
     let a = s .args .bounds in
-    true-whole (a .rings) (a .k) (a .limit) (s .args .tablebase .now) (x .loop .tablebase) (s .pre .1 .room) (x .loop .inv .1)
-    (done-all (a .rings) (a .k) (a .limit) (x .loop .tablebase) (x .loop .m)
+    true-whole (removable (a .edition)) (a .rings) (a .k) (a .limit) (s .args .tablebase .now) (x .loop .tablebase) (s .pre .1 .room)
+    (x .loop .inv .1)
+    (done-all (removable (a .edition)) (a .rings) (a .k) (a .limit) (x .loop .tablebase) (x .loop .m)
     (rows-done (x .loop .m) (a .k) (x .loop .deep) (c .if1 .left) (c .before .loop-test .left))
-    (subst (PairsFilled (a .rings) (a .k) (a .limit) (x .loop .m) 3 (x .loop .tablebase)) (c .if1 .left) (x .loop .inv .2)))
+    (subst (PairsFilled (removable (a .edition)) (a .rings) (a .k) (a .limit) (x .loop .m) 3 (x .loop .tablebase)) (c .if1 .left) (x .loop .inv .2)))
 
 pub solve-all-spec : {M : Type 1} → statement M
 solve-all-spec =

@@ -6,6 +6,7 @@ use Rattle.outcomes.specs.Pair.{LowerValid}
 use Rattle.invariance.specs.Symmetric.{LowerSymmetric}
 use Rattle.filling.specs.Inner.Solve.{Setting, PairFill}
 use borrow.Author.Needs.{needs}
+use Rattle.rules.specs.Ply.{removable}
 use Rattle.solver.proofs.solve_pair.Statement.{statement}
 use Rattle.solver.proofs.solve_pair.Tie as tie
 
@@ -50,7 +51,8 @@ returns c =
     let s = c .before .before .before .before .before .before .before .before in
     let a = s .args in
     let t = c .before .before .before .before .before .table-of .ensures in
-    by-counts (λ x y. PairFill (a .bounds .rings) (a .bounds .k) x y (a .bounds .limit) (a .tablebase .now) (c .before .before .solve-tables .last .0)
+    by-counts (λ x y. PairFill (removable (a .bounds .edition)) (a .bounds .rings) (a .bounds .k) x y (a .bounds .limit) (a .tablebase .now)
+    (c .before .before .solve-tables .last .0)
     (c .before .before .solve-tables .result))
     (sym (t .mover-is)) (sym (t .opponent-is)) (c .before .before .solve-tables .ensures)
 

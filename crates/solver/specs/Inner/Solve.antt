@@ -5,6 +5,7 @@ use mathlib.Core.List.{List}
 use Prim.Native.Nat.{ℕ, _*_, _≤_, _<_}
 use lib.ListN.{length}
 use Rattle.layout.specs.Layout.{tablebaseLength}
+use Rattle.rules.specs.Ply.{Rule, removable}
 use Rattle.game.specs.Game.{voidEntry}
 use Rattle.outcomes.specs.Pair.{Pair, LowerValid}
 use Rattle.outcomes.specs.Inner.Done.{TrueOn, DoneBefore}
@@ -30,7 +31,7 @@ pub record RowGiven (lent tablebase : List ℕ) (bounds : Bounds) (maps m : ℕ)
   pub pair : Pair (bounds .rings) (bounds .k) m m
   pub few : bounds .k ≤ 9
   pub room : length tablebase ≡ tablebaseLength (8 * bounds .rings) (bounds .k)
-  pub done : TrueOn (bounds .rings) (bounds .k) (bounds .limit) (DoneBefore m 3) tablebase
+  pub done : TrueOn (removable (bounds .edition)) (bounds .rings) (bounds .k) (bounds .limit) (DoneBefore m 3) tablebase
   pub limit-low : bounds .limit < voidEntry
   pub images : RingImages lent
   pub used : Used maps
@@ -44,10 +45,10 @@ pub record AllGiven (lent : List ℕ) (length : ℕ) (bounds : Bounds) : Type 0 
   pub images : RingImages lent
 
 -- the pairs before (m, o) are filled, or some position of the tablebase is too deep
-abbrev pub PairsFilled : ℕ → ℕ → ℕ → ℕ → ℕ → List ℕ → Bool → Type 0
-PairsFilled rings k limit m o tablebase true = Beyond rings k limit
-PairsFilled rings k limit m o tablebase false = TrueOn rings k limit (DoneBefore m o) tablebase
+abbrev pub PairsFilled : Rule → ℕ → ℕ → ℕ → ℕ → ℕ → List ℕ → Bool → Type 0
+PairsFilled rule rings k limit m o tablebase true = Beyond rule rings k limit
+PairsFilled rule rings k limit m o tablebase false = TrueOn rule rings k limit (DoneBefore m o) tablebase
 
 -- the tablebase is filled, or some position is too deep
-abbrev pub WholeFill : ℕ → ℕ → ℕ → List ℕ → List ℕ → Bool → Type 0
-WholeFill rings k limit before after deep = Fill rings k limit (AllTables rings k) (λ b. wholeSeed b) before after deep
+abbrev pub WholeFill : Rule → ℕ → ℕ → ℕ → List ℕ → List ℕ → Bool → Type 0
+WholeFill rule rings k limit before after deep = Fill rule rings k limit (AllTables rings k) (λ b. wholeSeed b) before after deep

@@ -5,6 +5,7 @@ use Prim.Native.Nat.{ℕ, _≤_, _<_, _-_, _+_, _*_}
 use native.Mathlib.Omega.{arith}
 use lib.ListN.{length}
 use Rattle.sizes.specs.Size.{size}
+use Rattle.rules.specs.Ply.{removable}
 use Rattle.seeking.specs.Inner.Cursors.{Stands}
 use Rattle.deciding.specs.Inner.Fits.{Fits}
 use Rattle.settling.specs.Inner.Settled.{judgedClass, isMarked, judgedFirst}
@@ -18,7 +19,7 @@ use Rattle.sweeping.proofs.judge_marked.Tie as tie
 abbrev Inv-loop : tie.InvT-loop
 Inv-loop tablebase₀ binomials masks images maps sweep table n at₀ r₀ tablebase at r =
     (n ≡ size (8 * maps .rings) (sweep .table .mover) (sweep .table .opponent)) × (r ≤ n) × (length tablebase ≡ length tablebase₀)
-    × (tablebase ≡ judgedFirst (maps .rings) (sweep .table) (sweep .same) (sweep .level) (maps .count) tablebase₀ r)
+    × (tablebase ≡ judgedFirst (removable (sweep .edition)) (maps .rings) (sweep .table) (sweep .same) (sweep .level) (maps .count) tablebase₀ r)
     × (r < n → isMarked (sweep .table) tablebase r ≡ true)
     × Stands (maps .rings) (sweep .table .mover) (sweep .table .opponent) n at
 
@@ -47,10 +48,12 @@ loop-holds c =
       omega (arith, s .pre .1 .fits .end-is),
       c .find-mark .ensures .high,
       refl,
-      judged-over (a .maps .rings) (a .sweep .table) (a .sweep .same) (a .sweep .level) (a .maps .count) (a .tablebase .now) 0 _
+      judged-over (removable (a .sweep .edition)) (a .maps .rings) (a .sweep .table) (a .sweep .same) (a .sweep .level) (a .maps .count)
+          (a .tablebase .now) 0 _
           (c .find-mark .result) (a .tablebase .now)
           (c .find-mark .ensures)
-          (judged-none (a .maps .rings) (a .sweep .table) (a .sweep .same) (a .sweep .level) (a .maps .count) (a .tablebase .now)),
+          (judged-none (removable (a .sweep .edition)) (a .maps .rings) (a .sweep .table) (a .sweep .same) (a .sweep .level) (a .maps .count)
+          (a .tablebase .now)),
       c .find-mark .ensures .here,
       λ h. absurd (omega (arith, c .before .before .nowhere .ensures)),
     )
@@ -98,7 +101,8 @@ add-find-mark c = omega (arith, c .before .before .before .before .before .befor
 -- this one is judged
 stepped : (c : tie.After-judge-place Inv-loop μ-loop)
     → (length (c .judge-place .last .0) ≡ length (c .before .before .before .before .loop .tablebase))
-    × (c .judge-place .last .0 ≡ judgedFirst (entered (c .before .before .before .before) .args .maps .rings)
+    × (c .judge-place .last .0 ≡ judgedFirst (removable (entered (c .before .before .before .before) .args .sweep .edition))
+    (entered (c .before .before .before .before) .args .maps .rings)
     (entered (c .before .before .before .before) .args .sweep .table) (entered (c .before .before .before .before) .args .sweep .same)
     (entered (c .before .before .before .before) .args .sweep .level) (entered (c .before .before .before .before) .args .maps .count)
     (entered (c .before .before .before .before) .args .tablebase .now)
@@ -107,10 +111,13 @@ stepped c =
     let x = c .before .before .before .before in
     let a = entered x .args in
     let e = c .judge-place .ensures
-    ∙ ap (judgedClass (a .maps .rings) (a .sweep .table) (a .sweep .same) (a .sweep .level) (a .maps .count) (x .loop .tablebase))
+    ∙ ap (judgedClass (removable (a .sweep .edition)) (a .maps .rings) (a .sweep .table) (a .sweep .same) (a .sweep .level) (a .maps .count)
+    (x .loop .tablebase))
     (c .before .before .seek .ensures .0) in (
-      ap length e ∙ judged-length (a .maps .rings) (a .sweep .table) (a .sweep .same) (a .sweep .level) (a .maps .count) (x .loop .r) (x .loop .tablebase),
-      e ∙ judged-step (a .maps .rings) (a .sweep .table) (a .sweep .same) (a .sweep .level) (a .maps .count) (a .tablebase .now) (x .loop .r)
+      ap length e ∙ judged-length (removable (a .sweep .edition)) (a .maps .rings) (a .sweep .table) (a .sweep .same) (a .sweep .level)
+          (a .maps .count) (x .loop .r) (x .loop .tablebase),
+      e ∙ judged-step (removable (a .sweep .edition)) (a .maps .rings) (a .sweep .table) (a .sweep .same) (a .sweep .level) (a .maps .count)
+          (a .tablebase .now) (x .loop .r)
           (x .loop .tablebase) (x .loop .inv .3),
     )
 
@@ -137,7 +144,8 @@ loop-again c =
       x .loop .inv .0,
       c .find-mark2 .ensures .high,
       stepped d .0 ∙ x .loop .inv .2,
-      judged-over (a .maps .rings) (a .sweep .table) (a .sweep .same) (a .sweep .level) (a .maps .count) (a .tablebase .now) (x .loop .r + 1) _
+      judged-over (removable (a .sweep .edition)) (a .maps .rings) (a .sweep .table) (a .sweep .same) (a .sweep .level) (a .maps .count)
+          (a .tablebase .now) (x .loop .r + 1) _
           (c .find-mark2 .result)
           (d .judge-place .last .0)
           (c .find-mark2 .ensures) (stepped d .1),
@@ -155,7 +163,8 @@ returns c =
     let a = entered x .args in
     let e : x .loop .r ≡ size (8 * a .maps .rings) (a .sweep .table .mover) (a .sweep .table .opponent) = omega
     (arith, c .loop-test .left, x .loop .inv .0, x .loop .inv .1) in
-    x .loop .inv .3 ∙ ap (judgedFirst (a .maps .rings) (a .sweep .table) (a .sweep .same) (a .sweep .level) (a .maps .count) (a .tablebase .now)) e
+    x .loop .inv .3 ∙ ap (judgedFirst (removable (a .sweep .edition)) (a .maps .rings) (a .sweep .table) (a .sweep .same) (a .sweep .level)
+    (a .maps .count) (a .tablebase .now)) e
 
 pub judge-marked-spec : {M : Type 1} → statement M
 judge-marked-spec =

@@ -5,6 +5,7 @@ use Prim.Native.Nat.{ℕ, _-_, _*_}
 use native.Mathlib.Omega.{arith}
 use lib.ListN.{length}
 use Rattle.sizes.specs.Size.{size}
+use Rattle.rules.specs.Ply.{removable}
 use Rattle.deciding.specs.Inner.Fits.{Fits}
 use Rattle.sweeping.specs.Inner.Levels.{sameSource, lowerSource}
 use Rattle.sweeping.proofs.Sources.{room-of, same-leads, lower-leads}
@@ -39,7 +40,8 @@ returns c =
     let d = j .before .before .before .before in
     let k = d .before .before .before .before .before in
     let a = k .before .before .before .before .before .before .before .args in
-    level-is (a .maps .rings) (a .sweep .table) (a .sweep .same) (a .sweep .level) (a .maps .count) (leastOfClass (a .maps .rings) (a .maps .count))
+    level-is (removable (a .sweep .edition)) (a .maps .rings) (a .sweep .table) (a .sweep .same) (a .sweep .level) (a .maps .count)
+    (leastOfClass (a .maps .rings) (a .maps .count))
     (a .tablebase .now) (k .mark-table .last .0)
     (d .mark-table2 .last .0) (j .judge-marked .last .0)
     (k .mark-table .ensures) (d .mark-table2 .ensures) (j .judge-marked .ensures)

@@ -6,6 +6,7 @@ use mathlib.Core.List.{List}
 use Prim.Native.Nat.{ℕ, _+_, _-_, _*_, _≤_}
 use Rattle.board.specs.Board.{digit}
 use Rattle.sizes.specs.Size.{size}
+use Rattle.rules.specs.Ply.{Rule}
 use Rattle.tables.specs.declared.Table.{Table}
 use Rattle.layers.specs.declared.Source.{Source}
 use Rattle.layers.specs.Inner.Layers.{markedFrom}
@@ -29,13 +30,14 @@ pub record LeadsTo (t : Table) (s : Source) (capture : Bool) : Type 0 where
   pub mover-is : s .opponent ≡ t .mover
   pub opponent-is : s .mover + digit capture ≡ t .opponent
 
-module _ (rings : ℕ) (t : Table) (same level maps : ℕ) (picked : List ℕ → Bool) where
+module _ (rings : ℕ) (t : Table) (same level : ℕ) (picked : List ℕ → Bool) where
   -- the marks of a level above 0
   unfoldable pub levelMarks : List ℕ → List ℕ
   levelMarks tablebase = markedFrom rings (t .own .start) (lowerSource t) true (level - 1) picked
       (markedFrom rings (t .own .start) (sameSource t same) false (level - 1) picked tablebase (size (8 * rings) (t .opponent) (t .mover)))
       (size (8 * rings) (t .opponent - 1) (t .mover))
 
-  -- the level
-  unfoldable pub levelByClasses : List ℕ → List ℕ
-  levelByClasses tablebase = judgedFirst rings t same level maps (levelMarks tablebase) (size (8 * rings) (t .mover) (t .opponent))
+-- the level
+unfoldable pub levelByClasses : Rule → ℕ → Table → ℕ → ℕ → ℕ → (List ℕ → Bool) → List ℕ → List ℕ
+levelByClasses rule rings t same level maps picked tablebase =
+    judgedFirst rule rings t same level maps (levelMarks rings t same level picked tablebase) (size (8 * rings) (t .mover) (t .opponent))

@@ -1,41 +1,39 @@
--- `tablebase_refusals::of_fill` meets its contract: the refusal of the rings, then those of K, the tablebase and the limit. Assumes nothing.
+-- `tablebase_refusals::of_fill` meets its contract: the refusals of rings and edition, then those of K, the tablebase and the limit. Assumes nothing.
 use mathlib.Core.Path.{_≡_, refl, sym, _∙_}
 use mathlib.Core.Bool.{false}
 use mathlib.Core.List.{List}
-use lib.ListN.{take}
 use borrow.Author.Needs.{needs}
-use Rattle.refusals.specs.Refusals.{Picked, refusalTable, pickedRows}
-use Rattle.refusals.specs.Conditions.{ringsWrong, limitPicks, fillPicks}
-use Rattle.refusals.proofs.FirstRefusal.{meets, passes, first-after}
-use Rattle.refusals.proofs.Conditions.{rings-right}
+use Rattle.refusals.specs.Refusals.{Picked, refusalTable, pickedRows, refusal}
+use Rattle.refusals.specs.Conditions.{editionPicks, limitPicks}
+use Rattle.refusals.proofs.FirstRefusal.{first-kept, first-after}
+use Rattle.refusals.proofs.Conditions.{edition-rings}
 use Rattle.tablebase_refusals.proofs.of_fill.Statement.{statement}
 use Rattle.tablebase_refusals.proofs.of_fill.Tie as tie
 
--- the rows that the call picks
+-- the rows of rings and edition, and those after them
 rows : (s : tie.Start) → List Picked
-rows s = pickedRows refusalTable (fillPicks (s .args .rings) (s .args .k) (s .args .limit) (s .args .length))
+rows s = pickedRows refusalTable (editionPicks (s .args .rings) (s .args .edition))
 
-rings-passed : (c : tie.Else1) → ringsWrong (c .before .before .args .rings) ≡ false
-rings-passed c = sym (c .before .rings-wrong .ensures) ∙ c .if1 .left
+later : (s : tie.Start) → List Picked
+later s = pickedRows refusalTable (limitPicks (s .args .rings) (s .args .k) false (s .args .limit) (s .args .length))
 
-rings-wrong-requires : tie.Need-rings-wrong-requires
-rings-wrong-requires c κs = search needs
+of-edition-requires : tie.Need-of-edition-requires
+of-edition-requires c κs = search needs
 
 returns : tie.Need-returns
-unfolding rows
-returns c = meets (rows (c .before .before)) 0 tt (sym (c .before .rings-wrong .ensures) ∙ c .if1 .taken)
+unfolding rows later
+returns c = let s = c .before .before in first-kept (rows s) (later s) (c .before .of-edition .result) (c .if1 .taken) (c .before .of-edition .ensures)
+
+-- past rings and edition
+none : (c : tie.Else1) → 0 ≡ refusal (editionPicks (c .before .before .args .rings) (c .before .before .args .edition))
+none c = sym (c .if1 .left) ∙ c .before .of-edition .ensures
 
 of-limit-requires : tie.Need-of-limit-requires
-of-limit-requires c κs = let s = c .before .before in (s .pre, rings-right (s .args .rings) (rings-passed c) .1)
+of-limit-requires c κs = let s = c .before .before in (s .pre, edition-rings (s .args .rings) (s .args .edition) (none c))
 
 returns-2 : tie.Need-returns-2
-unfolding rows
-returns-2 c =
-    let x = c .before in
-    let a = x .before .before .args in
-    c .of-limit .ensures
-    ∙ sym (first-after (take 1 (rows (x .before .before))) (pickedRows refusalTable (limitPicks (a .rings) (a .k) false (a .limit) (a .length))) refl
-    (passes (take 1 (rows (x .before .before))) (rings-passed x, tt)))
+unfolding rows later
+returns-2 c = let s = c .before .before .before in c .of-limit .ensures ∙ sym (first-after (rows s) (later s) refl (none (c .before)))
 
 pub of-fill-spec : {M : Type 1} → statement M
-of-fill-spec = tie.close (tie.spec rings-wrong-requires returns of-limit-requires returns-2)
+of-fill-spec = tie.close (tie.spec of-edition-requires returns of-limit-requires returns-2)

@@ -29,8 +29,11 @@ leads-requires : tie.Need-leads-requires Inv-loop μ-loop
 leads-requires c κs =
     let l = c .before in
     let x = l .before .before in
-    let s = x .before .before in
-    (s .pre .0, s .pre .1 .listed (l .take-lowest .result .lowest) (x .loop .inv .among (l .take-lowest .result .lowest) (l .take-lowest .ensures .member)))
+    let s = x .before .before in (
+      s .pre .0,
+      s .pre .1 .makeable (l .take-lowest .result .lowest)
+          (x .loop .inv .among (l .take-lowest .result .lowest) (l .take-lowest .ensures .member)),
+    )
 
 returns : tie.Need-returns Inv-loop μ-loop
 returns c =

@@ -8,6 +8,8 @@ use Rattle.sets.specs.Sets.{bit, elements, setFrom}
 use Rattle.sets.proofs.Passing.{Sought, sought-none, sought-more, sought-found, sought-all}
 use Rattle.board.specs.Board.{boardOf}
 use Rattle.rules.specs.Ply.{destinations, removable, slideMoves, afterPly}
+use Rattle.rules.proofs.Listed.{removable-takes}
+use Rattle.rules.proofs.Rises.{removable-rising}
 use Rattle.plies.specs.Inner.Positions.{Slide}
 use Rattle.plies.proofs.OnPositions.{from-low}
 use Rattle.plies.proofs.StoneMoves.{destinations-fit, destinations-vacant}
@@ -20,7 +22,7 @@ use Rattle.asking.proofs.slides.some_slide.Tie as tie
 abbrev Inv-loop : tie.InvT-loop
 Inv-loop tablebase binomials masks rings question position stone left₀ left =
     Sought (λ to. any (λ m. entryAsked tablebase question (boardOf (8 * rings) position) (afterPly (boardOf (8 * rings) position) m))
-    (slideMoves (λ n b. removable n b) rings (boardOf (8 * rings) position) (stone .from) to)) (stone .tos) left
+    (slideMoves (removable (question .edition)) rings (boardOf (8 * rings) position) (stone .from) to)) (stone .tos) left
 
 abbrev μ-loop : tie.MeasureT-loop
 μ-loop tablebase binomials masks rings question position stone left₀ left = left
@@ -61,7 +63,8 @@ found : (c : tie.After-some-removal Inv-loop μ-loop)
     (c .before .before .before .before .before .before .before .args .position))
     (afterPly (boardOf (8 * c .before .before .before .before .before .before .before .args .rings)
     (c .before .before .before .before .before .before .before .args .position)) m))
-    (slideMoves (λ n b. removable n b) (c .before .before .before .before .before .before .before .args .rings)
+    (slideMoves (removable (c .before .before .before .before .before .before .before .args .question .edition))
+    (c .before .before .before .before .before .before .before .args .rings)
     (boardOf (8 * c .before .before .before .before .before .before .before .args .rings)
     (c .before .before .before .before .before .before .before .args .position))
     (c .before .before .before .before .before .before .before .args .stone .from) (c .before .before .before .take-lowest .result .lowest))
@@ -73,7 +76,8 @@ found c =
     c .some-removal .ensures
     ∙ ap (λ (n : ℕ). any (λ p. entryAsked (a .tablebase .now) (a .question) b (afterPly b (n + p))) (elements 32 (r .removals .result)))
     (c .before .slide-number .ensures)
-    ∙ some-slide (a .rings) (a .position) (s .pre .0 .placed) _ (a .stone .from) (r .before .take-lowest .result .lowest) (r .removals .result)
+    ∙ some-slide (removable (a .question .edition)) (removable-takes (a .question .edition)) (removable-rising (a .question .edition)) (a .rings)
+    (s .pre .0 .placed .small) b _ (a .stone .from) (r .before .take-lowest .result .lowest) (r .removals .result)
     (r .removals .ensures)
 
 loop-holds : tie.Need-loop-holds Inv-loop μ-loop
@@ -105,7 +109,8 @@ some-removal-requires c κs =
     let a = s .args in
     let to : ℕ = r .before .take-lowest .result .lowest in (
       s .pre .0,
-      removing (a .rings) (a .position) (s .pre .0 .placed) (a .stone .from) to (s .pre .1 .own) (destination (r .before)) (low r) (r .removals .result)
+      removing (removable (a .question .edition)) (removable-takes (a .question .edition)) (a .rings) (a .position) (s .pre .0 .placed)
+          (a .stone .from) to (s .pre .1 .own) (destination (r .before)) (low r) (r .removals .result)
           (r .removals .ensures) (c .slide-number .result) (c .slide-number .ensures),
     )
 
@@ -117,7 +122,8 @@ returns c =
     let s = x .before .before in
     sought-found _ (s .args .stone .tos) (x .loop .left) (l .take-lowest .result .lowest) (l .take-lowest .result .rest) (x .loop .inv)
     (l .take-lowest .ensures) (sym (found m) ∙ c .if1 .taken)
-    ∙ some-stone (s .args .rings) (s .args .position) (s .pre .0 .placed) _ (s .args .stone .from) (s .args .stone .tos) (s .pre .1 .tos)
+    ∙ some-stone (removable (s .args .question .edition)) (s .args .rings) (s .args .position) (s .pre .0 .placed) _ (s .args .stone .from)
+    (s .args .stone .tos) (s .pre .1 .tos)
 
 loop-less : tie.Need-loop-less Inv-loop μ-loop
 loop-less c = omega (arith, c .before .before .before .before .take-lowest .ensures .less)
@@ -135,7 +141,8 @@ returns-2 c =
     let x = c .before in
     let s = x .before .before in
     sought-all _ (s .args .stone .tos) (x .loop .left) (x .loop .inv) (c .loop-test .left)
-    ∙ some-stone (s .args .rings) (s .args .position) (s .pre .0 .placed) _ (s .args .stone .from) (s .args .stone .tos) (s .pre .1 .tos)
+    ∙ some-stone (removable (s .args .question .edition)) (s .args .rings) (s .args .position) (s .pre .0 .placed) _ (s .args .stone .from)
+    (s .args .stone .tos) (s .pre .1 .tos)
 
 pub some-slide-spec : {M : Type 1} → statement M
 some-slide-spec =

@@ -27,21 +27,24 @@ returns : tie.Need-returns
 returns c =
     let a = c .before .before .before .before .before .args in
     let n = c .before .of-pair .result in
-    pair-turned (a .rings) (a .k) (a .limit) (a .tablebase .now) (a .mover) (a .opponent) n (c .if1 .taken)
-    (pair-refused (a .rings) (a .mover) (a .opponent) (a .k) (a .limit) (a .tablebase .now) n (c .if1 .taken) (c .before .of-pair .ensures))
+    pair-turned (a .rings) (a .edition) (a .k) (a .limit) (a .tablebase .now) (a .mover) (a .opponent) n (c .if1 .taken)
+    (pair-refused (a .rings) (a .edition) (a .mover) (a .opponent) (a .k) (a .limit) (a .tablebase .now) n (c .if1 .taken)
+    (c .before .of-pair .ensures))
 
 -- the entry of the call, seen from past its first refusals
 abbrev entered : tie.Else1 → tie.Start
 entered c = c .before .before .before .before .before
 
 -- past the first refusals
-none : (c : tie.Else1) → 0 ≡ refusal (tablesPicks (entered c .args .rings) (entered c .args .mover) (entered c .args .opponent) (entered c .args .k)
+none : (c : tie.Else1) → 0 ≡ refusal (tablesPicks (entered c .args .rings) (entered c .args .edition) (entered c .args .mover)
+    (entered c .args .opponent) (entered c .args .k)
     (entered c .args .limit) (length (entered c .args .tablebase .now)))
 none c = sym (c .if1 .left) ∙ c .before .of-pair .ensures
 
-known : (c : tie.Else1) → AcceptedPair (entered c .args .rings) (entered c .args .mover) (entered c .args .opponent) (entered c .args .k)
+known : (c : tie.Else1) → AcceptedPair (entered c .args .rings) (entered c .args .edition) (entered c .args .mover) (entered c .args .opponent)
+    (entered c .args .k)
     (entered c .args .limit) (length (entered c .args .tablebase .now))
-known c = accepted-pair _ _ _ _ _ _ (sym (none c))
+known c = accepted-pair _ _ _ _ _ _ _ (sym (none c))
 
 is-pair : (c : tie.Else1) → Pair (entered c .args .rings) (entered c .args .k) (entered c .args .mover) (entered c .args .opponent)
 is-pair c =
@@ -57,24 +60,27 @@ is-pair c =
 -- whether a lower entry is void decides
 decided : (c : tie.Else1) (t : Bool) → lowerVoid (entered c .args .rings) (entered c .args .k) (entered c .args .tablebase .now) (entered c .args .mover)
     (entered c .args .opponent) ≡ t
-    → refusal (pairPicks (entered c .args .rings) (entered c .args .mover) (entered c .args .opponent) (entered c .args .k) (entered c .args .limit)
+    → refusal (pairPicks (entered c .args .rings) (entered c .args .edition) (entered c .args .mover) (entered c .args .opponent) (entered c .args .k)
+    (entered c .args .limit)
     (entered c .args .tablebase .now)) ≡ cond t 12 0
 decided c t e =
     let a = entered c .args in
-    pair-decides (a .rings) (a .mover) (a .opponent) (a .k) (a .limit) (a .tablebase .now) (none c) ∙ ap (λ (u : Bool). cond u 12 0) e
+    pair-decides (a .rings) (a .edition) (a .mover) (a .opponent) (a .k) (a .limit) (a .tablebase .now) (none c) ∙ ap (λ (u : Bool). cond u 12 0) e
 
 -- what the solver leaves keeps the promise
 abbrev solving : tie.After-solve-given → tie.Else1
 solving c = c .before .before .before .before .before .before .before .before .before .before .before
 
 kept : (c : tie.After-solve-given) (deep : Bool) → c .solve-given .result ≡ deep
-    → FillPairCall (entered (solving c) .args .rings) (entered (solving c) .args .mover) (entered (solving c) .args .opponent)
+    → FillPairCall (entered (solving c) .args .rings) (entered (solving c) .args .edition) (entered (solving c) .args .mover)
+    (entered (solving c) .args .opponent)
     (entered (solving c) .args .k) (entered (solving c) .args .limit) (entered (solving c) .args .tablebase .now) (c .solve-given .last .0)
     (answer (cond deep 13 0) [])
 kept c deep d =
     let a = entered (solving c) .args in
     let free = c .before .before .before .before .before .before .before in
-    pair-kept (a .rings) (a .k) (a .limit) (a .tablebase .now) (a .mover) (a .opponent) (c .solve-given .last .0) (c .solve-given .result) deep
+    pair-kept (a .rings) (a .edition) (a .k) (a .limit) (a .tablebase .now) (a .mover) (a .opponent) (c .solve-given .last .0)
+    (c .solve-given .result) deep
     (sym (decided (solving c) false (sym (free .before .lower-void .ensures) ∙ free .if2 .left))) (c .solve-given .ensures) d
 
 lower-void-requires : tie.Need-lower-void-requires
@@ -90,7 +96,7 @@ returns-2 : tie.Need-returns-2
 returns-2 c =
     let x = c .before .before .before .before in
     let a = entered x .args in
-    pair-turned (a .rings) (a .k) (a .limit) (a .tablebase .now) (a .mover) (a .opponent) 12 (λ z. absurd (omega arith))
+    pair-turned (a .rings) (a .edition) (a .k) (a .limit) (a .tablebase .now) (a .mover) (a .opponent) 12 (λ z. absurd (omega arith))
     (sym (decided x true (sym (c .before .lower-void .ensures) ∙ c .if2 .taken)))
 
 masks-of-requires : tie.Need-masks-of-requires

@@ -23,7 +23,8 @@ of-fill-requires c κs = search needs
 returns : tie.Need-returns
 returns c =
     let a = c .before .before .before .before .before .args in
-    fill-refused (a .rings) (a .k) (a .limit) (a .tablebase .now) (c .before .of-fill .result) (c .if1 .taken) (c .before .of-fill .ensures)
+    fill-refused (a .rings) (a .edition) (a .k) (a .limit) (a .tablebase .now) (c .before .of-fill .result) (c .if1 .taken)
+    (c .before .of-fill .ensures)
 
 -- the entry of the call, seen from past its first refusals
 abbrev entered : tie.Else1 → tie.Start
@@ -31,22 +32,25 @@ entered c = c .before .before .before .before .before
 
 -- past the refusals
 none : (c : tie.Else1)
-    → 0 ≡ refusal (fillPicks (entered c .args .rings) (entered c .args .k) (entered c .args .limit) (length (entered c .args .tablebase .now)))
+    → 0 ≡ refusal (fillPicks (entered c .args .rings) (entered c .args .edition) (entered c .args .k) (entered c .args .limit)
+    (length (entered c .args .tablebase .now)))
 none c = sym (c .if1 .left) ∙ c .before .of-fill .ensures
 
-known : (c : tie.Else1) → AcceptedFill (entered c .args .rings) (entered c .args .k) (entered c .args .limit) (length (entered c .args .tablebase .now))
-known c = accepted-fill _ _ _ _ (sym (none c))
+known : (c : tie.Else1) → AcceptedFill (entered c .args .rings) (entered c .args .edition) (entered c .args .k) (entered c .args .limit)
+    (length (entered c .args .tablebase .now))
+known c = accepted-fill _ _ _ _ _ (sym (none c))
 
 -- what the solver leaves keeps the promise
 abbrev solving : tie.After-solve-all → tie.Else1
 solving c = c .before .before .before .before .before .before .before
 
 kept : (c : tie.After-solve-all) (deep : Bool) → c .solve-all .result ≡ deep
-    → FillCall (entered (solving c) .args .rings) (entered (solving c) .args .k) (entered (solving c) .args .limit)
+    → FillCall (entered (solving c) .args .rings) (entered (solving c) .args .edition) (entered (solving c) .args .k)
+    (entered (solving c) .args .limit)
     (entered (solving c) .args .tablebase .now) (c .solve-all .last .0) (answer (cond deep 13 0) [])
 kept c deep d =
     let a = entered (solving c) .args in
-    fill-kept (a .rings) (a .k) (a .limit) (a .tablebase .now) (c .solve-all .last .0) (c .solve-all .result) deep (none (solving c))
+    fill-kept (a .rings) (a .edition) (a .k) (a .limit) (a .tablebase .now) (c .solve-all .last .0) (c .solve-all .result) deep (none (solving c))
     (c .solve-all .ensures) d
 
 masks-of-requires : tie.Need-masks-of-requires

@@ -7,8 +7,7 @@ use Rattle.sets.specs.Sets.{bit}
 use Rattle.sets.proofs.Elements.{bit-low}
 use Rattle.sets.proofs.Passing.{Sought, sought-none, sought-more, sought-found, sought-all}
 use Rattle.board.specs.Board.{boardOf}
-use Rattle.rules.specs.Ply.{destinations, afterPly}
-use Rattle.plies.specs.Inner.Listing.{legalFrom}
+use Rattle.rules.specs.Ply.{removable, destinations, stoneMoves, afterPly}
 use Rattle.plies.proofs.OnPositions.{mover-small}
 use Rattle.plies.proofs.StoneMoves.{mover-fits}
 use Rattle.plies.proofs.SomeMove.{some-move, some-successor-is}
@@ -19,7 +18,8 @@ use Rattle.judging.proofs.successors.some_successor.Tie as tie
 abbrev Inv-loop : tie.InvT-loop
 Inv-loop tablebase binomials masks rings question position left₀ left =
     Sought (λ from. any (λ m. entryAsked tablebase question (boardOf (8 * rings) position) (afterPly (boardOf (8 * rings) position) m))
-    (legalFrom rings (boardOf (8 * rings) position) from (destinations rings (boardOf (8 * rings) position) from))) (position .mover) left
+    (stoneMoves (removable (question .edition)) rings (boardOf (8 * rings) position) from (destinations rings (boardOf (8 * rings) position) from)))
+    (position .mover) left
 
 abbrev μ-loop : tie.MeasureT-loop
 μ-loop tablebase binomials masks rings question position left₀ left = left
@@ -60,7 +60,8 @@ returns c =
     let a = s .args in
     sought-found _ (a .position .mover) (x .loop .left) (l .take-lowest .result .lowest) (l .take-lowest .result .rest) (x .loop .inv)
     (l .take-lowest .ensures) (sym (m .some-destination .ensures) ∙ c .if1 .taken)
-    ∙ some-move (a .rings) (a .position) (s .pre .0 .placed) _ ∙ some-successor-is _ (a .rings) (boardOf (8 * a .rings) (a .position))
+    ∙ some-move (removable (a .question .edition)) (a .rings) (a .position) (s .pre .0 .placed) _
+    ∙ some-successor-is (removable (a .question .edition)) _ (a .rings) (boardOf (8 * a .rings) (a .position))
 
 loop-less : tie.Need-loop-less Inv-loop μ-loop
 loop-less c = omega (arith, c .before .before .before .take-lowest .ensures .less)
@@ -79,7 +80,8 @@ returns-2 c =
     let s = x .before .before in
     let a = s .args in
     sought-all _ (a .position .mover) (x .loop .left) (x .loop .inv) (c .loop-test .left)
-    ∙ some-move (a .rings) (a .position) (s .pre .0 .placed) _ ∙ some-successor-is _ (a .rings) (boardOf (8 * a .rings) (a .position))
+    ∙ some-move (removable (a .question .edition)) (a .rings) (a .position) (s .pre .0 .placed) _
+    ∙ some-successor-is (removable (a .question .edition)) _ (a .rings) (boardOf (8 * a .rings) (a .position))
 
 pub some-successor-spec : {M : Type 1} → statement M
 some-successor-spec =

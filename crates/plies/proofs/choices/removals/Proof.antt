@@ -40,7 +40,8 @@ returns c =
     let s = m .before .before .before in
     let a = s .args in
     let e = c .before .removable .ensures in
-    e ∙ removed-one (a .rings) (a .position) (s .pre .0 .placed) (a .from) (a .to) (s .pre .1) (closed m true (c .before .before .if1 .taken))
+    e ∙ removed-one (a .rings) (a .position) (s .pre .0 .placed) (a .from) (a .to) (s .pre .1) (a .edition)
+    (closed m true (c .before .before .if1 .taken))
     (λ z. c .if2 .taken (e ∙ z))
 
 returns-2 : tie.Need-returns-2
@@ -48,7 +49,8 @@ returns-2 c =
     let m = c .before .before .before in
     let s = m .before .before .before in
     let a = s .args in
-    removed-idle (a .rings) (a .position) (s .pre .0 .placed) (a .from) (a .to) (s .pre .1) (closed m true (c .before .before .if1 .taken))
+    removed-idle (a .rings) (a .position) (s .pre .0 .placed) (a .from) (a .to) (s .pre .1) (a .edition)
+    (closed m true (c .before .before .if1 .taken))
     (sym (c .before .removable .ensures) ∙ c .if2 .left)
 
 returns-3 : tie.Need-returns-3
@@ -56,7 +58,7 @@ returns-3 c =
     let m = c .before in
     let s = m .before .before .before in
     let a = s .args in
-    removed-none (a .rings) (a .position) (s .pre .0 .placed) (a .from) (a .to) (s .pre .1) (closed m false (c .if1 .left))
+    removed-none (a .rings) (a .position) (s .pre .0 .placed) (a .from) (a .to) (s .pre .1) (a .edition) (closed m false (c .if1 .left))
 
 pub removals-spec : {M : Type 1} → statement M
 removals-spec =
