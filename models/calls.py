@@ -18,6 +18,11 @@ def about_rings(rings):
     return {"rings": lambda: rings not in (1, 2, 3)}
 
 
+# Document 02, A11: "20, edition not 1 or 2".
+def about_edition(edition):
+    return {"edition": lambda: edition not in (1, 2)}
+
+
 def about_counts(rings, mover, opponent):
     return about_rings(rings) | {"counts": lambda: not fits(8 * rings, mover, opponent)}
 
@@ -55,18 +60,20 @@ def unrank(rings, mover, opponent, rank, target):
 
 
 # "A list's unused places keep their contents."
-def moves(rings, board, target):
-    refusal = first_refusal(about_board(rings, board) | {"room": lambda: len(target) < len(listed(board))})
+def moves(rings, edition, board, target):
+    refusal = first_refusal(about_edition(edition) | about_board(rings, board) | {
+        "room": lambda: len(target) < len(listed(edition, board)),
+    })
     if refusal:
         return refusal, 0, target
-    numbers = [number(ply) for ply in listed(board)]
+    numbers = [number(ply) for ply in listed(edition, board)]
     return 0, len(numbers), numbers + target[len(numbers) :]
 
 
-def make_move(rings, board, move, target):
-    refusal = first_refusal(about_board(rings, board) | {
+def make_move(rings, edition, board, move, target):
+    refusal = first_refusal(about_edition(edition) | about_board(rings, board) | {
         "target length": lambda: len(target) != 8 * rings,
-        "not listed": lambda: numbered(move) not in listed(board),
+        "not listed": lambda: numbered(move) not in listed(edition, board),
     })
     return (refusal, target) if refusal else (0, after(board, numbered(move)))
 
@@ -77,22 +84,27 @@ def representative(rings, board):
     return (refusal, 0) if refusal else (0, rank_of(classes.representative(board)))
 
 
-def lookup(rings, board, k, tablebase):
-    conditions = about_board(rings, board) | about_tablebase(rings, k, counts(board), tablebase)
+# The conditions on a board whose entry or best move is sought.
+def about_entry(rings, edition, board, k, tablebase):
+    return about_edition(edition) | about_board(rings, board) | about_tablebase(rings, k, counts(board), tablebase)
+
+
+# "An entry means the outcome under the edition with which its shelf was filled", so it is read the same under either.
+def lookup(rings, edition, board, k, tablebase):
+    conditions = about_entry(rings, edition, board, k, tablebase)
     refusal = first_refusal(conditions | {"void": lambda: entry_of(board, k, tablebase) == VOID})
     return (refusal, 0) if refusal else (0, entry_of(board, k, tablebase))
 
 
 # The move's number, "with the entry of the successor it leads to".
-def best_move(rings, board, k, tablebase):
-    conditions = about_board(rings, board) | about_tablebase(rings, k, counts(board), tablebase)
-    refusal = first_refusal(conditions | {
-        "blocked": lambda: not listed(board),
-        "void": lambda: any(entry == VOID for _, entry in choices(board, k, tablebase)),
+def best_move(rings, edition, board, k, tablebase):
+    refusal = first_refusal(about_entry(rings, edition, board, k, tablebase) | {
+        "blocked": lambda: not listed(edition, board),
+        "void": lambda: any(entry == VOID for _, entry in choices(edition, board, k, tablebase)),
     })
     if refusal:
         return refusal, 0, 0
-    ply, entry = best(board, k, tablebase)
+    ply, entry = best(edition, board, k, tablebase)
     return 0, number(ply), entry
 
 
@@ -106,22 +118,22 @@ def filled(places, depth, limit, tablebase):
 
 
 # "One call fills a shelf."
-def fill(rings, k, limit, tablebase):
-    refusal = first_refusal(about_tablebase(rings, k, (), tablebase) | about_limit(limit))
+def fill(rings, edition, k, limit, tablebase):
+    refusal = first_refusal(about_edition(edition) | about_tablebase(rings, k, (), tablebase) | about_limit(limit))
     if refusal:
         return refusal, tablebase
-    return filled(range(length(rings, k)), whole_depths(rings, k), limit, tablebase)
+    return filled(range(length(rings, k)), whole_depths(rings, edition, k), limit, tablebase)
 
 
 # "Another fills the pair (m, o) and (o, m) only."
-def fill_pair(rings, mover, opponent, k, limit, tablebase):
+def fill_pair(rings, edition, mover, opponent, k, limit, tablebase):
     conditions = about_counts(rings, mover, opponent) | about_tablebase(rings, k, (mover, opponent), tablebase)
-    refusal = first_refusal(conditions | about_limit(limit) | {
+    refusal = first_refusal(about_edition(edition) | conditions | about_limit(limit) | {
         "void": lambda: any(tablebase[place] == VOID for place in lower_places(rings, k, mover, opponent)),
     })
     if refusal:
         return refusal, tablebase
-    depth = pair_depths(rings, k, mover, opponent, tablebase)
+    depth = pair_depths(rings, edition, k, mover, opponent, tablebase)
     return filled(pair_places(rings, k, mover, opponent), depth, limit, tablebase)
 
 

@@ -10,20 +10,22 @@ from tablebases import length
 
 HEADER = "rings mover opponent rank entry move"
 K, LIMIT = 5, 2000
+# "`desk` keeps edition 1" (document 02, A11).
+EDITION = 1
 
 
 # "The program `desk` fills the one-ring shelf (K 5, limit 2,000)."
 @cache
 def tablebase():
-    return fill(1, K, LIMIT, array("H", [0] * length(1, K)))[1]
+    return fill(1, EDITION, K, LIMIT, array("H", [0] * length(1, K)))[1]
 
 
 # "Entry and move are `-` on two and three rings; move is `-` for a blocked mover."
 def entry_and_move(rings, board):
     if rings != 1:
         return "-", "-"
-    entry = lookup(rings, board, K, tablebase())[1]
-    refusal, move, _ = best_move(rings, board, K, tablebase())
+    entry = lookup(rings, EDITION, board, K, tablebase())[1]
+    refusal, move, _ = best_move(rings, EDITION, board, K, tablebase())
     return entry, "-" if refusal else move
 
 

@@ -24,10 +24,10 @@ def worth(entry):
 
 
 # The listed plies, each with the entry of the successor it leads to.
-def choices(board, k, tablebase):
-    return [(ply, entry_of(after(board, ply), k, tablebase)) for ply in listed(board)]
+def choices(edition, board, k, tablebase):
+    return [(ply, entry_of(after(board, ply), k, tablebase)) for ply in listed(edition, board)]
 
 
 # "A best move is the first listed among" those of most worth.
-def best(board, k, tablebase):
-    return min(choices(board, k, tablebase), key=lambda choice: worth(choice[1]))
+def best(edition, board, k, tablebase):
+    return min(choices(edition, board, k, tablebase), key=lambda choice: worth(choice[1]))

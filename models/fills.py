@@ -1,4 +1,5 @@
-"""The games that are played on a tablebase: the whole one, and a pair's (document 01, "A ply" and "Ranks and shelves")."""
+"""The games that are played on a tablebase under an edition of the rules: the whole one, and a pair's (document 01, "A ply"
+and "Ranks and shelves")."""
 
 from array import array
 from functools import cache
@@ -13,10 +14,10 @@ from tablebases import FEWEST, length, places, tables
 # The places that the plies of each place of a tablebase lead to. A side left with two stones has no place; all such
 # positions are one, numbered as the place past the last.
 @cache
-def game(rings, k):
+def game(rings, edition, k):
     boards = [board for table in tables(rings, k) for board in in_order(8 * rings, *table)]
     place = {board: number for number, board in enumerate(boards)}
-    return [array("I", [place.get(board, len(boards)) for board in successors(before)]) for before in boards]
+    return [array("I", [place.get(board, len(boards)) for board in successors(edition, before)]) for before in boards]
 
 
 # "A side left with two stones has lost": it is lost within 0.
@@ -26,8 +27,8 @@ def two_stones(rings, k):
 
 # "On a whole shelf, outcomes come from the plies alone, never from entries."
 @cache
-def whole_depths(rings, k):
-    return depths(range(length(rings, k)), game(rings, k), two_stones(rings, k))
+def whole_depths(rings, edition, k):
+    return depths(range(length(rings, k)), game(rings, edition, k), two_stones(rings, k))
 
 
 # "The pair (m, o) and (o, m)"; of two equal counts it is one table.
@@ -43,7 +44,7 @@ def lower_places(rings, k, mover, opponent):
 
 
 # The lower tables are taken "as given endings with the depths they state, a given draw as a drawn end".
-def pair_depths(rings, k, mover, opponent, tablebase):
+def pair_depths(rings, edition, k, mover, opponent, tablebase):
     stated = {place: tablebase[place] for place in lower_places(rings, k, mover, opponent)}
     given = {place: entry for place, entry in stated.items() if entry != DRAW}
-    return depths(pair_places(rings, k, mover, opponent), game(rings, k), given | two_stones(rings, k))
+    return depths(pair_places(rings, k, mover, opponent), game(rings, edition, k), given | two_stones(rings, k))

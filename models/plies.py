@@ -26,21 +26,23 @@ def slid(board, start, end):
     return after
 
 
-# The rule of removal: "If the moved stone then stands in a full mill of its own, exactly one opposing stone must be
-# removed: one outside any mill, or any one if all stand in mills."
-def removals(board, end):
+# The rule of removal, by edition: "If the moved stone then stands in a full mill of its own, exactly one opposing stone
+# must be removed: one outside any mill, or any one if all stand in mills." In edition 2 (document 02, A11), "when all
+# opposing stones stand in mills, a closed mill removes nothing".
+def removals(edition, board, end):
     if not in_mill(board, end):
         return [NO_REMOVAL]
     stones = points_of(board, OPPONENT)
     outside = [stone for stone in stones if not in_mill(board, stone)]
-    return outside or stones
+    shielded = stones if edition == 1 else [NO_REMOVAL]
+    return outside or shielded
 
 
-def plies(board):
+def plies(edition, board):
     return [
         (start, end, removed)
         for start, end in slides(board)
-        for removed in removals(slid(board, start, end), end)
+        for removed in removals(edition, slid(board, start, end), end)
     ]
 
 
@@ -57,8 +59,8 @@ def numbered(move):
 
 # The order of a list (document 02, A2): "all moves with a removal, by rising number, and then the others, by rising number".
 @lru_cache(maxsize=1)
-def listed(board):
-    rising = sorted(plies(board), key=number)
+def listed(edition, board):
+    rising = sorted(plies(edition, board), key=number)
     captures = [ply for ply in rising if ply[2] != NO_REMOVAL]
     return captures + [ply for ply in rising if ply[2] == NO_REMOVAL]
 
@@ -72,5 +74,5 @@ def after(board, ply):
     return bytes(board.translate(EXCHANGED))
 
 
-def successors(board):
-    return [after(board, ply) for ply in plies(board)]
+def successors(edition, board):
+    return [after(board, ply) for ply in plies(edition, board)]

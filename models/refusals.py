@@ -1,9 +1,10 @@
-"""Where a call is turned back (document 01, the section of that name)."""
+"""Where a call is turned back (document 01, the section of that name, with document 02's 20)."""
 
 # "Places are taken from top to bottom, conditions left to right": place, condition, number.
 TABLE = (
     ("frame", "characters", 14),
     ("rings", "rings", 1),
+    ("edition", "edition", 20),
     ("board", "length", 2),
     ("board", "value", 3),
     ("counts", "counts", 4),

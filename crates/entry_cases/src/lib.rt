@@ -4,27 +4,27 @@ use fill_cases::make_up;
 use morris::Chosen;
 use morris::Looked;
 use morris::Unranked;
-use notation::about;
+use notation::about_under;
 use notation::board_of;
 use notation::colon;
 use notation::end;
 use notation::least;
 use notation::number;
+use notation::print;
 use notation::refused;
-use notation::table;
 use notation::text;
 use notation::wider;
 use notation::with_digit;
 
 // The entry of a board of so many points in a tablebase of largest count k.
-fn lookup(rings: u8, length: usize, digits: u64, k: u8, tablebase: &[u16]) {
+fn lookup(rings: u8, edition: u8, length: usize, digits: u64, k: u8, tablebase: &[u16]) {
     let all = board_of(digits);
     let points = least(length, 16);
     let board = &all[0..points];
-    about(b"lookup", rings, board);
+    about_under(b"lookup", rings, edition, board);
     number(k as u64);
     colon();
-    match morris::lookup(rings, board, k, tablebase) {
+    match morris::lookup(rings, edition, board, k, tablebase) {
         Looked::Entry(e) => number(wider(e)),
         Looked::Refused(n) => refused(n),
     }
@@ -32,14 +32,14 @@ fn lookup(rings: u8, length: usize, digits: u64, k: u8, tablebase: &[u16]) {
 }
 
 // The best move of a board, and the entry of the successor that it leads to.
-fn best_move(rings: u8, length: usize, digits: u64, k: u8, tablebase: &[u16]) {
+fn best_move(rings: u8, edition: u8, length: usize, digits: u64, k: u8, tablebase: &[u16]) {
     let all = board_of(digits);
     let points = least(length, 16);
     let board = &all[0..points];
-    about(b"best move", rings, board);
+    about_under(b"best move", rings, edition, board);
     number(k as u64);
     colon();
-    match morris::best_move(rings, board, k, tablebase) {
+    match morris::best_move(rings, edition, board, k, tablebase) {
         Chosen::Move { number: n, entry } => {
             number(wider(n));
             number(wider(entry));
@@ -49,44 +49,73 @@ fn best_move(rings: u8, length: usize, digits: u64, k: u8, tablebase: &[u16]) {
     end();
 }
 
-// Document 01's two boards, four against four, five against three, and a draw; K 9 has the same places. Then each refusal, and
-// the first of two.
+// Document 01's two boards, four against four, five against three, and a draw; K 9 has the same places; two boards whose entries are others under
+// edition 2. Then each refusal but 12 and 20, and the first of two.
 fn lookups(tablebase: &[u16]) {
-    lookup(1, 8, 02122011, 5, tablebase);
-    lookup(1, 8, 11120202, 5, tablebase);
-    lookup(1, 8, 11112222, 5, tablebase);
-    lookup(1, 8, 11212121, 5, tablebase);
-    lookup(1, 8, 00121122, 5, tablebase);
-    lookup(1, 8, 02122011, 9, tablebase);
-    lookup(1, 8, 11212121, 9, tablebase);
-    lookup(0, 8, 02122011, 5, tablebase);
-    lookup(4, 3, 011, 5, tablebase);
-    lookup(1, 7, 2122011, 5, tablebase);
-    lookup(2, 8, 32122011, 5, tablebase);
-    lookup(1, 8, 32122011, 5, tablebase);
-    lookup(1, 8, 02322011, 5, tablebase);
-    lookup(1, 8, 02022011, 2, tablebase);
-    lookup(1, 8, 02122011, 2, tablebase);
-    lookup(1, 8, 02122011, 10, tablebase);
-    lookup(1, 8, 11212121, 4, tablebase);
-    lookup(1, 8, 02122011, 4, tablebase);
+    lookup(1, 1, 8, 02122011, 5, tablebase);
+    lookup(1, 1, 8, 11120202, 5, tablebase);
+    lookup(1, 1, 8, 11112222, 5, tablebase);
+    lookup(1, 1, 8, 11212121, 5, tablebase);
+    lookup(1, 1, 8, 00121122, 5, tablebase);
+    lookup(1, 1, 8, 02122011, 9, tablebase);
+    lookup(1, 1, 8, 11212121, 9, tablebase);
+    lookup(1, 1, 8, 01011222, 5, tablebase);
+    lookup(1, 1, 8, 10111222, 5, tablebase);
+    lookup(0, 1, 8, 02122011, 5, tablebase);
+    lookup(4, 1, 3, 011, 5, tablebase);
+    lookup(1, 1, 7, 2122011, 5, tablebase);
+    lookup(2, 1, 8, 32122011, 5, tablebase);
+    lookup(1, 1, 8, 32122011, 5, tablebase);
+    lookup(1, 1, 8, 02322011, 5, tablebase);
+    lookup(1, 1, 8, 02022011, 2, tablebase);
+    lookup(1, 1, 8, 02122011, 2, tablebase);
+    lookup(1, 1, 8, 02122011, 10, tablebase);
+    lookup(1, 1, 8, 11212121, 4, tablebase);
+    lookup(1, 1, 8, 02122011, 4, tablebase);
+}
+
+// 20 after 1 and before each other refusal but 12.
+fn lookups_by_edition(tablebase: &[u16]) {
+    lookup(1, 0, 8, 02122011, 5, tablebase);
+    lookup(1, 3, 8, 02122011, 5, tablebase);
+    lookup(4, 3, 3, 011, 5, tablebase);
+    lookup(1, 0, 7, 2122011, 5, tablebase);
+    lookup(1, 3, 8, 02322011, 5, tablebase);
+    lookup(1, 0, 8, 02022011, 5, tablebase);
+    lookup(1, 3, 8, 02122011, 2, tablebase);
+    lookup(1, 0, 8, 02122011, 4, tablebase);
 }
 
 // Document 01's two boards; the last listed of three wins, a draw rather than a loss, a capture before a lower number of equal worth; a
-// blocked mover. Then each refusal but 12, and the first of two.
+// blocked mover; two boards whose entries are others under edition 2. Then each refusal but 12 and 20, and the first of two.
 fn best_moves(tablebase: &[u16]) {
-    best_move(1, 8, 02122011, 5, tablebase);
-    best_move(1, 8, 11120202, 5, tablebase);
-    best_move(1, 8, 01121222, 5, tablebase);
-    best_move(1, 8, 00121122, 5, tablebase);
-    best_move(1, 8, 01221221, 5, tablebase);
-    best_move(1, 8, 11112222, 5, tablebase);
-    best_move(0, 3, 011, 5, tablebase);
-    best_move(1, 7, 2122011, 5, tablebase);
-    best_move(1, 8, 02322011, 5, tablebase);
-    best_move(1, 8, 02022011, 2, tablebase);
-    best_move(1, 8, 11212121, 4, tablebase);
-    best_move(1, 8, 11112222, 4, tablebase);
+    best_move(1, 1, 8, 02122011, 5, tablebase);
+    best_move(1, 1, 8, 11120202, 5, tablebase);
+    best_move(1, 1, 8, 01121222, 5, tablebase);
+    best_move(1, 1, 8, 00121122, 5, tablebase);
+    best_move(1, 1, 8, 01221221, 5, tablebase);
+    best_move(1, 1, 8, 11112222, 5, tablebase);
+    best_move(1, 1, 8, 01011222, 5, tablebase);
+    best_move(1, 1, 8, 10111222, 5, tablebase);
+    best_move(0, 1, 3, 011, 5, tablebase);
+    best_move(1, 1, 7, 2122011, 5, tablebase);
+    best_move(1, 1, 8, 02322011, 5, tablebase);
+    best_move(1, 1, 8, 02022011, 2, tablebase);
+    best_move(1, 1, 8, 11212121, 4, tablebase);
+    best_move(1, 1, 8, 11112222, 4, tablebase);
+}
+
+// 20 after 1 and before each other refusal but 12.
+fn best_moves_by_edition(tablebase: &[u16]) {
+    best_move(1, 0, 8, 02122011, 5, tablebase);
+    best_move(1, 3, 8, 02122011, 5, tablebase);
+    best_move(4, 3, 3, 011, 5, tablebase);
+    best_move(1, 0, 7, 2122011, 5, tablebase);
+    best_move(1, 3, 8, 02322011, 5, tablebase);
+    best_move(1, 0, 8, 02022011, 5, tablebase);
+    best_move(1, 3, 8, 02122011, 2, tablebase);
+    best_move(1, 0, 8, 02122011, 4, tablebase);
+    best_move(1, 3, 8, 11112222, 5, tablebase);
 }
 
 fn entry_of(answer: Looked) -> u64 {
@@ -106,6 +135,7 @@ fn choice_of(answer: Chosen) -> u64 {
 // A rank's entry and best move as two more digits.
 fn with_board(
     digits: u64,
+    edition: u8,
     mover: u8,
     opponent: u8,
     rank: u64,
@@ -115,37 +145,47 @@ fn with_board(
     let Unranked::Written = morris::unrank(1, mover, opponent, rank, board) else {
         return digits;
     };
-    let entry = entry_of(morris::lookup(1, board, 5, tablebase));
-    let choice = choice_of(morris::best_move(1, board, 5, tablebase));
+    let entry = entry_of(morris::lookup(1, edition, board, 5, tablebase));
+    let choice = choice_of(morris::best_move(1, edition, board, 5, tablebase));
     with_digit(with_digit(digits, entry), choice)
 }
 
-fn digits(mover: u8, opponent: u8, size: u64, board: &mut [u8], tablebase: &[u16]) -> u64 {
+fn digits(
+    edition: u8,
+    mover: u8,
+    opponent: u8,
+    size: u64,
+    board: &mut [u8],
+    tablebase: &[u16],
+) -> u64 {
     let mut digits: u64 = 0;
     let mut rank: u64 = 0;
     while rank < size {
-        digits = with_board(digits, mover, opponent, rank, board, tablebase);
+        digits = with_board(digits, edition, mover, opponent, rank, board, tablebase);
         rank += 1;
     }
     digits
 }
 
 // The entries and best moves of a table's boards, as the digits of a number modulo a prime.
-fn answers(word: &[u8], mover: u8, opponent: u8, size: u64, tablebase: &[u16]) {
-    table(word, 1, mover, opponent);
-    text(b": digits");
-    number(digits(mover, opponent, size, &mut [0; 8], tablebase));
+fn answers(word: &[u8], edition: u8, mover: u8, opponent: u8, size: u64, tablebase: &[u16]) {
+    text(word);
+    print(
+        b" 1 % % %: digits",
+        &[edition as u64, mover as u64, opponent as u64],
+    );
+    number(digits(edition, mover, opponent, size, &mut [0; 8], tablebase));
     end();
 }
 
 // Every table of the tablebase.
-fn tables(word: &[u8], tablebase: &[u16]) {
-    answers(word, 3, 3, 560, tablebase);
-    answers(word, 3, 4, 280, tablebase);
-    answers(word, 3, 5, 56, tablebase);
-    answers(word, 4, 3, 280, tablebase);
-    answers(word, 4, 4, 70, tablebase);
-    answers(word, 5, 3, 56, tablebase);
+fn tables(word: &[u8], edition: u8, tablebase: &[u16]) {
+    answers(word, edition, 3, 3, 560, tablebase);
+    answers(word, edition, 3, 4, 280, tablebase);
+    answers(word, edition, 3, 5, 56, tablebase);
+    answers(word, edition, 4, 3, 280, tablebase);
+    answers(word, edition, 4, 4, 70, tablebase);
+    answers(word, edition, 5, 3, 56, tablebase);
 }
 
 // One void, where document 01's first board stands: its entry and its predecessors' best moves are refused, its own best move is not.
@@ -153,23 +193,70 @@ fn void_entry() {
     let mut entries = [7u16; 1302];
     entries[117] = VOID_ENTRY;
     let tablebase = &entries[..];
-    lookup(1, 8, 02122011, 5, tablebase);
-    lookup(1, 8, 11120202, 5, tablebase);
-    lookup(1, 8, 02122011, 3, tablebase);
-    best_move(1, 8, 02122011, 5, tablebase);
-    best_move(1, 8, 10211022, 5, tablebase);
-    best_move(1, 8, 10211022, 4, tablebase);
-    best_move(1, 8, 11120202, 5, tablebase);
-    answers(b"answers beside a void", 3, 3, 560, tablebase);
+    lookup(1, 1, 8, 02122011, 5, tablebase);
+    lookup(1, 1, 8, 11120202, 5, tablebase);
+    lookup(1, 1, 8, 02122011, 3, tablebase);
+    lookup(1, 0, 8, 02122011, 5, tablebase);
+    best_move(1, 1, 8, 02122011, 5, tablebase);
+    best_move(1, 1, 8, 10211022, 5, tablebase);
+    best_move(1, 1, 8, 10211022, 4, tablebase);
+    best_move(1, 3, 8, 10211022, 5, tablebase);
+    best_move(1, 1, 8, 11120202, 5, tablebase);
+    answers(b"answers beside a void", 1, 3, 3, 560, tablebase);
+}
+
+// One void, where a closed mill without a removal leads: a successor under edition 2 alone.
+fn void_after_no_removal() {
+    let mut entries = [7u16; 1302];
+    entries[136] = VOID_ENTRY;
+    let tablebase = &entries[..];
+    best_move(1, 1, 8, 01011222, 5, tablebase);
+    best_move(1, 2, 8, 01011222, 5, tablebase);
+}
+
+// In a tablebase filled under edition 2: document 01's first board, two boards whose entries are others under edition 1, a blocked mover. An entry means
+// the outcome under the edition of the fill, under whichever it is looked up.
+fn edition_2(tablebase: &[u16]) {
+    lookup(1, 2, 8, 02122011, 5, tablebase);
+    lookup(1, 2, 8, 01011222, 5, tablebase);
+    lookup(1, 2, 8, 10111222, 5, tablebase);
+    lookup(1, 2, 8, 11112222, 5, tablebase);
+    best_move(1, 2, 8, 02122011, 5, tablebase);
+    best_move(1, 2, 8, 01011222, 5, tablebase);
+    best_move(1, 2, 8, 10111222, 5, tablebase);
+    best_move(1, 2, 8, 11112222, 5, tablebase);
+    text(b"filled under 2 ");
+    lookup(1, 1, 8, 01011222, 5, tablebase);
+    tables(b"answers", 2, tablebase);
+}
+
+fn filled_under_1() {
+    let mut tablebase = [0u16; 1302];
+    morris::fill(1, 1, 5, 2000, &mut tablebase);
+    lookups(&tablebase);
+    lookups_by_edition(&tablebase);
+    best_moves(&tablebase);
+    best_moves_by_edition(&tablebase);
+    tables(b"answers", 1, &tablebase);
+}
+
+fn filled_under_2() {
+    let mut tablebase = [0u16; 1302];
+    morris::fill(1, 2, 5, 2000, &mut tablebase);
+    edition_2(&tablebase);
+}
+
+fn over_made_up() {
+    let mut tablebase = [0u16; 1302];
+    make_up(&mut tablebase, 40);
+    tables(b"made-up answers", 1, &tablebase);
+    tables(b"made-up answers", 2, &tablebase);
 }
 
 pub fn run() {
-    let mut tablebase = [0u16; 1302];
-    morris::fill(1, 5, 2000, &mut tablebase);
-    lookups(&tablebase);
-    best_moves(&tablebase);
-    tables(b"answers", &tablebase);
+    filled_under_1();
+    filled_under_2();
     void_entry();
-    make_up(&mut tablebase, 40);
-    tables(b"made-up answers", &tablebase);
+    void_after_no_removal();
+    over_made_up();
 }

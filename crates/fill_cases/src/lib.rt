@@ -2,6 +2,7 @@
 mod fills;
 mod sums;
 
+pub use fills::hold;
 pub use fills::make_up;
 pub use fills::put;
 pub use fills::run;

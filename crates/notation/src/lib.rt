@@ -94,6 +94,15 @@ pub fn about(word: &[u8], rings: u8, board: &[u8]) {
     points(board);
 }
 
+// A word, rings, an edition and a board.
+pub fn about_under(word: &[u8], rings: u8, edition: u8, board: &[u8]) {
+    text(word);
+    number(rings as u64);
+    number(edition as u64);
+    space();
+    points(board);
+}
+
 // A word and three numbers.
 pub fn table(word: &[u8], rings: u8, mover: u8, opponent: u8) {
     text(word);

@@ -11,16 +11,16 @@ ghost use Rattle.second.specs.Unchanged.{UnchangedUnless};
 
 const DEEPEST: u16 = 65533;
 
-// Fills the tablebase of largest count k: at each place the plies to the end, even lost, odd won, or 65535 for a draw. `counts` is room to
-// work in. Answers whether it did: false, and both buffers unchanged, where rings, k or a length is wrong.
-pub fn solve(rings: u8, k: u8, entries: &mut [u16], counts: &mut [u16]) -> bool
+// Fills the tablebase of largest count k under a rules edition: at each place the plies to the end, even lost, odd won, or 65535 for a draw.
+// `counts` is room to work in. Answers whether it did: false, and both buffers unchanged, where rings, edition, k or a length is wrong.
+pub fn solve(rings: u8, edition: u8, k: u8, entries: &mut [u16], counts: &mut [u16]) -> bool
     ensures { λ r. ⌜ UnchangedUnless r (now (entries .entry)) (now (entries .exit)) × UnchangedUnless r (now (counts .entry)) (now (counts .exit)) ⌝ }
 {
-    if outside(rings, k) {
+    if outside(rings, edition, k) {
         return false;
     }
     let starts = second_order::starts_table(rings, k);
-    fill(&starts, &starts, rings, entries, counts)
+    fill(&starts, &starts, rings, edition, entries, counts)
 }
 
 // Fills the tables (mover, opponent) and (opponent, mover) of such a tablebase and leaves the others as they are. The entries of
@@ -28,6 +28,7 @@ pub fn solve(rings: u8, k: u8, entries: &mut [u16], counts: &mut [u16]) -> bool
 // `solve` does, and false too where the tablebase has no such pair.
 pub fn solve_pair(
     rings: u8,
+    edition: u8,
     mover: u8,
     opponent: u8,
     k: u8,
@@ -36,7 +37,7 @@ pub fn solve_pair(
 ) -> bool
     ensures { λ r. ⌜ UnchangedUnless r (now (entries .entry)) (now (entries .exit)) × UnchangedUnless r (now (counts .entry)) (now (counts .exit)) ⌝ }
 {
-    if outside(rings, k) {
+    if outside(rings, edition, k) {
         return false;
     }
     let starts = second_order::starts_table(rings, k);
@@ -44,11 +45,11 @@ pub fn solve_pair(
         return false;
     }
     let pair = second_order::pair_of(&starts, mover, opponent);
-    fill(&starts, &pair, rings, entries, counts)
+    fill(&starts, &pair, rings, edition, entries, counts)
 }
 
-fn outside(rings: u8, k: u8) -> bool {
-    (rings < 1) | (3 < rings) | (k < 3) | (9 < k)
+fn outside(rings: u8, edition: u8, k: u8) -> bool {
+    (rings < 1) | (3 < rings) | (edition < 1) | (2 < edition) | (k < 3) | (9 < k)
 }
 
 // Fills the tables whose starts are in `filled`, if the lengths are those of the tablebase.
@@ -56,6 +57,7 @@ fn fill(
     starts: &[usize; 101],
     filled: &[usize; 101],
     rings: u8,
+    edition: u8,
     entries: &mut [u16],
     counts: &mut [u16],
 ) -> bool
@@ -65,8 +67,8 @@ fn fill(
     if (entries.len() != length) | (counts.len() != length) {
         return false;
     }
-    second_passes::open(starts, filled, rings, entries, counts);
-    waves(starts, filled, rings, entries, counts);
+    second_passes::open(starts, filled, rings, edition, entries, counts);
+    waves(starts, filled, rings, edition, entries, counts);
     true
 }
 
@@ -103,12 +105,13 @@ fn waves(
     starts: &[usize; 101],
     filled: &[usize; 101],
     rings: u8,
+    edition: u8,
     entries: &mut [u16],
     counts: &mut [u16],
 ) {
     let mut depth: u16 = 0;
     while depth < DEEPEST {
-        second_passes::wave(starts, filled, rings, depth, entries, counts);
+        second_passes::wave(starts, filled, rings, edition, depth, entries, counts);
         depth = next_depth(entries, depth);
     }
 }

@@ -2,6 +2,7 @@
 use super::plies::OPEN;
 use super::plies::goes;
 use super::plies::may_be_taken;
+use super::plies::removals;
 use second_order::NO_TABLE;
 use second_order::Position;
 use second_order::at;
@@ -14,9 +15,10 @@ use second_order::rank;
 use second_order::start_of;
 use second_order::with_stone;
 
-// What is taken back: the rings, the depth found, and the counts before the ply, without a removal.
+// What is taken back: the rings, the edition, the depth found, and the counts before the ply, without a removal.
 struct Ply {
     rings: u8,
+    edition: u8,
     depth: u16,
     m: u8,
     o: u8,
@@ -90,13 +92,58 @@ fn with_taken(
         return;
     }
     let before = with_stone(board, taken, 2);
-    if may_be_taken(&before, ply.rings, taken) {
+    if may_be_taken(&before, ply.rings, ply.edition, taken) {
         let opponent = std::num::wrapping_add_u8(ply.o, 1);
         reach(filled, ply, opponent, &before, entries, counts);
     }
 }
 
-// With a move taken back. One that closed a mill took a stone, any that it may have taken, and another move took none.
+// Whether a move to a point takes none of the opposing stones on the board: it closes no mill, or none of them may be taken.
+fn takes_none(board: &[u8; 24], ply: Ply, to: usize) -> bool {
+    if !in_mill(board, ply.rings, to) {
+        return true;
+    }
+    removals(board, ply.rings, ply.edition, ply.o) == 0
+}
+
+// With a move taken back that took no stone, if it may have taken none.
+fn without_removal(
+    filled: &[usize; 101],
+    last: Move,
+    board: &[u8; 24],
+    entries: &mut [u16],
+    counts: &mut [u16],
+) {
+    let ply = last.ply;
+    if !takes_none(board, ply, last.to) {
+        return;
+    }
+    let before = moved(board, last.to, last.from);
+    reach(filled, ply, ply.o, &before, entries, counts);
+}
+
+// With a move taken back that took a stone, if it closed a mill: any that it may have taken.
+fn with_removal(
+    filled: &[usize; 101],
+    last: Move,
+    board: &[u8; 24],
+    entries: &mut [u16],
+    counts: &mut [u16],
+) {
+    let ply = last.ply;
+    if !in_mill(board, ply.rings, last.to) {
+        return;
+    }
+    let before = moved(board, last.to, last.from);
+    let points = 8 * ply.rings as usize;
+    let mut taken = 0;
+    while taken < points {
+        with_taken(filled, last, &before, taken, entries, counts);
+        taken += 1;
+    }
+}
+
+// With a move taken back, if it can have been made.
 fn back_to(
     filled: &[usize; 101],
     last: Move,
@@ -108,17 +155,8 @@ fn back_to(
     if !goes(board, ply.m, last.to, last.from) {
         return;
     }
-    let before = moved(board, last.to, last.from);
-    if !in_mill(board, ply.rings, last.to) {
-        reach(filled, ply, ply.o, &before, entries, counts);
-        return;
-    }
-    let points = 8 * ply.rings as usize;
-    let mut taken = 0;
-    while taken < points {
-        with_taken(filled, last, &before, taken, entries, counts);
-        taken += 1;
-    }
+    without_removal(filled, last, board, entries, counts);
+    with_removal(filled, last, board, entries, counts);
 }
 
 // With every move to a point taken back, if the side that moved has a stone there.
@@ -182,6 +220,7 @@ fn turned(board: &[u8; 24]) -> [u8; 24] {
 // Takes the position at a place back if it has this depth and a table to be filled can come before it.
 fn visit(
     filled: &[usize; 101],
+    edition: u8,
     position: Position,
     depth: u16,
     place: usize,
@@ -200,6 +239,7 @@ fn visit(
     let board = position.board;
     let ply = Ply {
         rings: position.rings,
+        edition,
         depth,
         m: position.o,
         o: position.m,
@@ -212,6 +252,7 @@ pub fn wave(
     starts: &[usize; 101],
     filled: &[usize; 101],
     rings: u8,
+    edition: u8,
     depth: u16,
     entries: &mut [u16],
     counts: &mut [u16],
@@ -219,7 +260,7 @@ pub fn wave(
     let mut position = first_position(starts, rings);
     let mut place = 0;
     while place < entries.len() {
-        visit(filled, position, depth, place, entries, counts);
+        visit(filled, edition, position, depth, place, entries, counts);
         position = next_position(starts, position);
         place += 1;
     }

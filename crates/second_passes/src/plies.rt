@@ -12,10 +12,10 @@ use second_order::start_of;
 // What stands at a place until its depth is found, and stays there for a draw.
 pub const OPEN: u16 = 65535;
 
-// Plies counted: how many, and whether one of them closes a mill.
+// Plies counted: how many, and whether one of them takes a stone.
 struct Tally {
     plies: u16,
-    closing: bool,
+    taking: bool,
 }
 
 fn add(x: u16, y: u16) -> u16 {
@@ -38,18 +38,26 @@ fn free_stones(board: &[u8; 24], rings: u8) -> u16 {
     n
 }
 
-// Whether a mill may take the stone at a point: it is outside any mill, or all are inside.
-pub fn may_be_taken(board: &[u8; 24], rings: u8, p: usize) -> bool {
-    is_free(board, rings, p) | (free_stones(board, rings) == 0)
-}
-
-// How many of the opponent's stones a mill may take.
-fn removals(board: &[u8; 24], rings: u8, opponent: u8) -> u16 {
-    let free = free_stones(board, rings);
-    if free == 0 {
+// How many stones a mill may take where all stand in mills: any of them in edition 1, none in edition 2.
+fn shielded(edition: u8, opponent: u8) -> u16 {
+    if edition == 1 {
         return opponent as u16;
     }
+    0
+}
+
+// How many of the opponent's stones a mill may take: those outside any mill, if there are such.
+pub fn removals(board: &[u8; 24], rings: u8, edition: u8, opponent: u8) -> u16 {
+    let free = free_stones(board, rings);
+    if free == 0 {
+        return shielded(edition, opponent);
+    }
     free
+}
+
+// Whether a mill may take the stone at a point: it is outside any mill, or all are inside and edition 1 gives any.
+pub fn may_be_taken(board: &[u8; 24], rings: u8, edition: u8, p: usize) -> bool {
+    is_free(board, rings, p) | ((edition == 1) & (free_stones(board, rings) == 0))
 }
 
 // Whether a stone may go from one point to another: to a vacant one, with three stones to any, else to a neighbour. A move is taken back by
@@ -58,7 +66,7 @@ pub fn goes(board: &[u8; 24], stones: u8, from: usize, to: usize) -> bool {
     (at(board, to) == 0) & ((stones == 3) | adjoin(from, to))
 }
 
-// The tally with the plies of one move: one, or one for each removal where it closes a mill.
+// The tally with the plies of one move: one, or one for each removal where it closes a mill that has any.
 fn with_move(
     tally: Tally,
     board: &[u8; 24],
@@ -71,15 +79,16 @@ fn with_move(
     if !goes(board, mover, from, to) {
         return tally;
     }
-    if in_mill(&moved(board, from, to), rings, to) {
+    let closes = in_mill(&moved(board, from, to), rings, to);
+    if closes & (0 < removals) {
         return Tally {
             plies: add(tally.plies, removals),
-            closing: true,
+            taking: true,
         };
     }
     Tally {
         plies: add(tally.plies, 1),
-        closing: tally.closing,
+        taking: tally.taking,
     }
 }
 
@@ -110,7 +119,7 @@ fn tally_of(board: &[u8; 24], rings: u8, mover: u8, removals: u16) -> Tally {
     let points = 8 * rings as usize;
     let mut sum = Tally {
         plies: 0,
-        closing: false,
+        taking: false,
     };
     let mut from = 0;
     while from < points {
@@ -125,7 +134,7 @@ fn first_entry(tally: Tally, opponent: u8) -> u16 {
     if tally.plies == 0 {
         return 0;
     }
-    if tally.closing & (opponent == 3) {
+    if tally.taking & (opponent == 3) {
         return 1;
     }
     OPEN
@@ -139,6 +148,7 @@ fn put(buffer: &mut [u16], place: usize, n: u16) {
 
 fn open_at(
     filled: &[usize; 101],
+    edition: u8,
     position: Position,
     place: usize,
     entries: &mut [u16],
@@ -148,7 +158,7 @@ fn open_at(
         return;
     }
     let board = position.board;
-    let choices = removals(&board, position.rings, position.o);
+    let choices = removals(&board, position.rings, edition, position.o);
     let tally = tally_of(&board, position.rings, position.m, choices);
     put(entries, place, first_entry(tally, position.o));
     put(counts, place, tally.plies);
@@ -159,13 +169,14 @@ pub fn open(
     starts: &[usize; 101],
     filled: &[usize; 101],
     rings: u8,
+    edition: u8,
     entries: &mut [u16],
     counts: &mut [u16],
 ) {
     let mut position = first_position(starts, rings);
     let mut place = 0;
     while place < entries.len() {
-        open_at(filled, position, place, entries, counts);
+        open_at(filled, edition, position, place, entries, counts);
         position = next_position(starts, position);
         place += 1;
     }

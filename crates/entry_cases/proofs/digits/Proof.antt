@@ -7,10 +7,10 @@ use Rattle.entry_cases.proofs.digits.Statement.{statement}
 use Rattle.entry_cases.proofs.digits.Tie as tie
 
 abbrev Inv-loop : tie.InvT-loop
-Inv-loop mover opponent size board₀ tablebase digits₀ rank₀ board digits rank = (rank ≤ size) × (length board ≡ length board₀)
+Inv-loop edition mover opponent size board₀ tablebase digits₀ rank₀ board digits rank = (rank ≤ size) × (length board ≡ length board₀)
 
 abbrev μ-loop : tie.MeasureT-loop
-μ-loop mover opponent size board₀ tablebase digits₀ rank₀ board digits rank = size - rank
+μ-loop edition mover opponent size board₀ tablebase digits₀ rank₀ board digits rank = size - rank
 
 loop-holds : tie.Need-loop-holds Inv-loop μ-loop
 loop-holds c = search needs

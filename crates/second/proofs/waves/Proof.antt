@@ -7,11 +7,11 @@ use Rattle.second.proofs.waves.Statement.{statement}
 use Rattle.second.proofs.waves.Tie as tie
 
 abbrev Inv-loop : tie.InvT-loop
-Inv-loop starts filled rings entries₀ counts₀ depth₀ entries counts depth = (depth ≤ 65533) × (length entries ≡ length entries₀)
+Inv-loop starts filled rings edition entries₀ counts₀ depth₀ entries counts depth = (depth ≤ 65533) × (length entries ≡ length entries₀)
     × (length counts ≡ length counts₀)
 
 abbrev μ-loop : tie.MeasureT-loop
-μ-loop starts filled rings entries₀ counts₀ depth₀ entries counts depth = 65533 - depth
+μ-loop starts filled rings edition entries₀ counts₀ depth₀ entries counts depth = 65533 - depth
 
 loop-holds : tie.Need-loop-holds Inv-loop μ-loop
 loop-holds c = search needs

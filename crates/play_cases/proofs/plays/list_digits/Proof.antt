@@ -7,10 +7,10 @@ use Rattle.play_cases.proofs.plays.list_digits.Statement.{statement}
 use Rattle.play_cases.proofs.plays.list_digits.Tie as tie
 
 abbrev Inv-loop : tie.InvT-loop
-Inv-loop rings board list n target₀ most digits₀ i₀ target digits i = (i ≤ most) × (length target ≡ length target₀)
+Inv-loop rings edition board list n target₀ most digits₀ i₀ target digits i = (i ≤ most) × (length target ≡ length target₀)
 
 abbrev μ-loop : tie.MeasureT-loop
-μ-loop rings board list n target₀ most digits₀ i₀ target digits i = most - i
+μ-loop rings edition board list n target₀ most digits₀ i₀ target digits i = most - i
 
 least-requires : tie.Need-least-requires Inv-loop μ-loop
 least-requires c κs = search needs

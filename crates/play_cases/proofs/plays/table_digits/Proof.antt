@@ -7,11 +7,11 @@ use Rattle.play_cases.proofs.plays.table_digits.Statement.{statement}
 use Rattle.play_cases.proofs.plays.table_digits.Tie as tie
 
 abbrev Inv-loop : tie.InvT-loop
-Inv-loop rings mover opponent n step board₀ target₀ list₀ digits₀ rank₀ i₀ board target list digits rank i =
+Inv-loop rings edition mover opponent n step board₀ target₀ list₀ digits₀ rank₀ i₀ board target list digits rank i =
     (i ≤ n) × (length list ≡ 324) × (length board ≡ length board₀) × (length target ≡ length target₀)
 
 abbrev μ-loop : tie.MeasureT-loop
-μ-loop rings mover opponent n step board₀ target₀ list₀ digits₀ rank₀ i₀ board target list digits rank i = n - i
+μ-loop rings edition mover opponent n step board₀ target₀ list₀ digits₀ rank₀ i₀ board target list digits rank i = n - i
 
 loop-holds : tie.Need-loop-holds Inv-loop μ-loop
 loop-holds c = search needs
