@@ -97,7 +97,7 @@ class Calls {
         uint16_t list[MORRIS_MOVES_MAX] = {}, other[MORRIS_MOVES_MAX] = {};
         size_t length = 0, other_length = 0, differ = 0;
         auto library = [&](size_t i) {
-            morris_moves(rings_, &boards_[i * points_], points_, other, MORRIS_MOVES_MAX, &other_length);
+            morris_moves(rings_, EDITION, &boards_[i * points_], points_, other, MORRIS_MOVES_MAX, &other_length);
         };
         auto plain = [&](size_t i) { length = board_.moves(position_of(&boards_[i * points_], points_), list); };
         double library_time = nanoseconds(CALLS, library), plain_time = nanoseconds(CALLS, plain);
@@ -116,13 +116,13 @@ class Calls {
         plain::Tablebase tablebase(board_, k, entries.data());
         auto lookup = [&](size_t i) {
             uint16_t entry;
-            morris_lookup(rings_, &boards_[i * points_], points_, k, entries.data(), entries.size(), &entry);
+            morris_lookup(rings_, EDITION, &boards_[i * points_], points_, k, entries.data(), entries.size(), &entry);
             return entry;
         };
         auto best_move = [&](size_t i) {
             plain::BestMove best;
-            morris_best_move(rings_, &boards_[i * points_], points_, k, entries.data(), entries.size(), &best.number,
-                             &best.entry);
+            morris_best_move(rings_, EDITION, &boards_[i * points_], points_, k, entries.data(), entries.size(),
+                             &best.number, &best.entry);
             return best;
         };
         auto at = [&](size_t i) { return position_of(&boards_[i * points_], points_); };

@@ -7,6 +7,9 @@
 
 namespace bench {
 
+// The rules edition that the plain solver plays by.
+constexpr uint8_t EDITION = 1;
+
 // The highest limit that the library takes: no depth lies beyond it.
 constexpr uint32_t LIMIT = 65533;
 

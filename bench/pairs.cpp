@@ -54,7 +54,7 @@ class Tablebases {
 
     double library_seconds(int mover, int opponent) {
         double start = processor();
-        int refusal = morris_fill_pair(rings_, mover, opponent, k_, LIMIT, library_, length_);
+        int refusal = morris_fill_pair(rings_, EDITION, mover, opponent, k_, LIMIT, library_, length_);
         if (refusal) fail("morris_fill_pair refused " + std::to_string(refusal));
         return processor() - start;
     }

@@ -34,7 +34,7 @@ void Run::fill(Solver solver, int rings, int k, uint16_t *entries) {
     double wall_start = wall(), processor_start = processor();
     if (solver == Solver::PLAIN)
         plain::fill(rings, k, entries);
-    else if (int refusal = morris_fill(rings, k, LIMIT, entries, length_))
+    else if (int refusal = morris_fill(rings, EDITION, k, LIMIT, entries, length_))
         fail("morris_fill refused " + std::to_string(refusal));
     measured().wall = wall() - wall_start;
     measured().processor = processor() - processor_start;

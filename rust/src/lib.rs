@@ -4,6 +4,10 @@
 //! [`Refused`] with the number of the first refusal that the arguments meet, and then every buffer is as it was (after 13, too deep, the entries to
 //! be filled are [`VOID`]). The repository's `README.md` and `include/morris.h` say the rest.
 //!
+//! The calls that go by moves or by entries take the rules edition, 1 or 2. In both a closed mill removes one opposing stone that stands outside any
+//! mill. Where all opposing stones stand in mills, it removes any one of them in edition 1, and nothing in edition 2. An entry means the outcome under
+//! the edition with which its tablebase was filled; reading it under another edition carries no claim.
+//!
 //! What this wrapper adds is checked by rustc and the tests, not proved: that a slice's pointer and length go together, and that no two overlap.
 
 pub mod ffi;
@@ -44,6 +48,7 @@ impl fmt::Display for Refused {
             12 => "a void entry",
             13 => "a forced end beyond the limit",
             14 => "no frame",
+            20 => "edition not 1 or 2",
             _ => "unknown",
         };
         write!(f, "refused {}: {}", self.0, condition)
@@ -87,17 +92,18 @@ pub fn unrank(rings: u8, mover: u8, opponent: u8, rank: u64, target: &mut [u8]) 
     answer(number, ())
 }
 
-/// Lists a board's moves at the start of the list, those with a removal by rising number, then the others by rising number, and says how many.
-/// Refusals 1, 2, 3, 4, 7.
-pub fn moves(rings: u8, board: &[u8], list: &mut [u16]) -> Result<usize, Refused> {
+/// Lists a board's moves under an edition at the start of the list, those with a removal by rising number, then the others by rising number, and
+/// says how many. Refusals 1, 20, 2, 3, 4, 7.
+pub fn moves(rings: u8, edition: u8, board: &[u8], list: &mut [u16]) -> Result<usize, Refused> {
     let mut count = 0;
-    let number = unsafe { ffi::morris_moves(rings, board.as_ptr(), board.len(), list.as_mut_ptr(), list.len(), &mut count) };
+    let number = unsafe { ffi::morris_moves(rings, edition, board.as_ptr(), board.len(), list.as_mut_ptr(), list.len(), &mut count) };
     answer(number, count)
 }
 
-/// Writes the board after a listed move over the target, of 8 × rings bytes; the sides have changed names. Refusals 1, 2, 3, 4, 6, 8.
-pub fn make_move(rings: u8, board: &[u8], number: u16, target: &mut [u8]) -> Result<(), Refused> {
-    let number = unsafe { ffi::morris_make_move(rings, board.as_ptr(), board.len(), number, target.as_mut_ptr(), target.len()) };
+/// Writes the board after a move that is listed under an edition over the target, of 8 × rings bytes; the sides have changed names.
+/// Refusals 1, 20, 2, 3, 4, 6, 8.
+pub fn make_move(rings: u8, edition: u8, board: &[u8], number: u16, target: &mut [u8]) -> Result<(), Refused> {
+    let number = unsafe { ffi::morris_make_move(rings, edition, board.as_ptr(), board.len(), number, target.as_mut_ptr(), target.len()) };
     answer(number, ())
 }
 
@@ -108,31 +114,46 @@ pub fn representative(rings: u8, board: &[u8]) -> Result<u64, Refused> {
     answer(number, rank)
 }
 
-/// Fills the tablebase of largest count k: at each place the plies to the end, or draw. Refusals 1, 11, 6, 10, 13.
-pub fn fill(rings: u8, k: u8, limit: u32, tablebase: &mut [u16]) -> Result<(), Refused> {
-    let number = unsafe { ffi::morris_fill(rings, k, limit, tablebase.as_mut_ptr(), tablebase.len()) };
+/// Fills the tablebase of largest count k under an edition: at each place the plies to the end, or draw. Refusals 1, 20, 11, 6, 10, 13.
+pub fn fill(rings: u8, edition: u8, k: u8, limit: u32, tablebase: &mut [u16]) -> Result<(), Refused> {
+    let number = unsafe { ffi::morris_fill(rings, edition, k, limit, tablebase.as_mut_ptr(), tablebase.len()) };
     answer(number, ())
 }
 
-/// Fills the tables of two counts, either way round, over the entries of their lower tables. Refusals 1, 4, 11, 6, 10, 12, 13.
-pub fn fill_pair(rings: u8, mover: u8, opponent: u8, k: u8, limit: u32, tablebase: &mut [u16]) -> Result<(), Refused> {
-    let number = unsafe { ffi::morris_fill_pair(rings, mover, opponent, k, limit, tablebase.as_mut_ptr(), tablebase.len()) };
+/// Fills the tables of two counts, either way round, under an edition over the entries of their lower tables.
+/// Refusals 1, 20, 4, 11, 6, 10, 12, 13.
+pub fn fill_pair(rings: u8, edition: u8, mover: u8, opponent: u8, k: u8, limit: u32, tablebase: &mut [u16]) -> Result<(), Refused> {
+    let number = unsafe { ffi::morris_fill_pair(rings, edition, mover, opponent, k, limit, tablebase.as_mut_ptr(), tablebase.len()) };
     answer(number, ())
 }
 
-/// The entry of a board in a tablebase of largest count k: [`DRAW`], else plies to the end, odd won, even lost. Refusals 1, 2, 3, 4, 11, 6, 12.
-pub fn lookup(rings: u8, board: &[u8], k: u8, tablebase: &[u16]) -> Result<u16, Refused> {
+/// The entry of a board in a tablebase of largest count k, as it was filled: [`DRAW`], else plies to the end, odd won, even lost.
+/// Refusals 1, 20, 2, 3, 4, 11, 6, 12.
+pub fn lookup(rings: u8, edition: u8, board: &[u8], k: u8, tablebase: &[u16]) -> Result<u16, Refused> {
     let mut entry = 0;
-    let number = unsafe { ffi::morris_lookup(rings, board.as_ptr(), board.len(), k, tablebase.as_ptr(), tablebase.len(), &mut entry) };
+    let number = unsafe {
+        ffi::morris_lookup(
+            rings,
+            edition,
+            board.as_ptr(),
+            board.len(),
+            k,
+            tablebase.as_ptr(),
+            tablebase.len(),
+            &mut entry,
+        )
+    };
     answer(number, entry)
 }
 
-/// The best move of a board: the first listed among quickest win, else a draw, else longest loss. Refusals 1, 2, 3, 4, 11, 6, 9, 12.
-pub fn best_move(rings: u8, board: &[u8], k: u8, tablebase: &[u16]) -> Result<BestMove, Refused> {
+/// The best move of a board: the first of those listed under an edition among quickest win, else a draw, else longest loss.
+/// Refusals 1, 20, 2, 3, 4, 11, 6, 9, 12.
+pub fn best_move(rings: u8, edition: u8, board: &[u8], k: u8, tablebase: &[u16]) -> Result<BestMove, Refused> {
     let mut best = BestMove { number: 0, entry: 0 };
     let number = unsafe {
         ffi::morris_best_move(
             rings,
+            edition,
             board.as_ptr(),
             board.len(),
             k,
