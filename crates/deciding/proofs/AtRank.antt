@@ -42,14 +42,14 @@ module _ (rule : Rule) (rings : ℕ) (t : Table) (same r : ℕ) (now : List ℕ)
     pub hit-at : (level : ℕ) → hit (successors rule rings) (λ b. probe now same (t .lower .start) (count 2 (boardOf (8 * rings) p)) b) level
         (boardOf (8 * rings) p)
         ≡ hit (successors rule rings) (judged rings t same now) level (boardAt rings t same r)
-    hit-at level = ap₂ (λ (y : ℕ) (c : List ℕ). hit (successors rule rings) (λ b. probe now same (t .lower .start) y b) level c) (w .opponent-is)
-        (w .board-is)
+    hit-at level = ap₂ (λ (y : ℕ) (c : List ℕ). hit (successors rule rings) (λ b. probe now same (t .lower .start) y b) level c)
+        (w .opponent-is) (w .board-is)
 
     pub decided-at : decided (successors rule rings) (λ b. probe now same (t .lower .start) (count 2 (boardOf (8 * rings) p)) b)
         (boardOf (8 * rings) p)
         ≡ decided (successors rule rings) (judged rings t same now) (boardAt rings t same r)
-    decided-at = ap₂ (λ (y : ℕ) (c : List ℕ). decided (successors rule rings) (λ b. probe now same (t .lower .start) y b) c) (w .opponent-is)
-        (w .board-is)
+    decided-at = ap₂ (λ (y : ℕ) (c : List ℕ). decided (successors rule rings) (λ b. probe now same (t .lower .start) y b) c)
+        (w .opponent-is) (w .board-is)
 
   pub closed-undecided : isOpen t now r ≡ false → false ≡ openDecided rule rings t same now r
   unfolding openDecided

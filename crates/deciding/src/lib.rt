@@ -66,7 +66,8 @@ pub fn some_decided(
 ) -> bool
     requires { ⌜ Lent rings (now binomials) (now masks) ⌝ }
     requires { ⌜ Fits (length (now tablebase)) rings table same ⌝ }
-    ensures { λ b. ⌜ Found (openDecided (removable edition) rings table same (now (tablebase .entry))) (size (8 * rings) (table .mover) (table .opponent)) b ⌝ }
+    ensures { λ b. ⌜ Found (openDecided (removable edition) rings table same (now (tablebase .entry)))
+        (size (8 * rings) (table .mover) (table .opponent)) b ⌝ }
 {
     let own = table.own;
     let size = own.end - own.start;

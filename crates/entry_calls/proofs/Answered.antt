@@ -51,6 +51,7 @@ module _ (rings edition k : ℕ) (tablebase : List ℕ) (entries : TrueEntries (
   unfolding bestMoveCall
   best-answered some =
       let known : AcceptedEntry rings b k (length tablebase) = accepted-entry rings edition b k (length tablebase) right in
-      let told = successors-told (removable edition) (removable-takes edition) rings k tablebase entries (known .board .rings-high) b (known .in-tables) in
+      let told = successors-told (removable edition) (removable-takes edition) rings k tablebase entries
+      (known .board .rings-high) b (known .in-tables) in
       sym (answer-accepted (refusal (bestMovePicks rings edition b k tablebase)) _
       (sym (best-move-decides rings edition b k tablebase (sym right) ∙ ap₂ (λ (t u : Bool). cond t 9 (cond u 12 0)) some told)))

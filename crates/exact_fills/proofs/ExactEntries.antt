@@ -53,56 +53,55 @@ pair-met rings edition m o k limit before e =
 module _ (rings edition k limit : ℕ) (before after : List ℕ) where
   -- an accepted fill: its conditions held, and the tables hold the entries of the whole game
   pub fill-accepted : FillCall rings edition k limit before after (accepted [])
-      → AcceptedFill rings edition k limit (length before) × Filled (removable edition) rings k limit (AllTables rings k) (λ b. wholeSeed b) before
-      after
+      → AcceptedFill rings edition k limit (length before)
+      × Filled (removable edition) rings k limit (AllTables rings k) (λ b. wholeSeed b) before after
   fill-accepted p =
-      let f = promised.accepted-fill (fillPicks rings edition k limit (length before)) (promised.fill-last rings edition k limit (length before)) _
-      before after p in
+      let f = promised.accepted-fill (fillPicks rings edition k limit (length before))
+      (promised.fill-last rings edition k limit (length before)) _ before after p in
       (accepted-fill rings edition k limit (length before) (f .0), f .1)
 
-  module _ (p : FillCall rings edition k limit before after (accepted [])) (m o r : ℕ) (t : AllTables rings k m o) (h : r < size (8 * rings) m o)
-    where
-      abbrev entry : ℕ
-      entry = getD after (start (8 * rings) k m o + r) 0
+  module _ (p : FillCall rings edition k limit before after (accepted [])) (m o r : ℕ)
+      (t : AllTables rings k m o) (h : r < size (8 * rings) m o) where
+    abbrev entry : ℕ
+    entry = getD after (start (8 * rings) k m o + r) 0
 
-      abbrev position : List ℕ
-      position = unrank (8 * rings) m o r
+    abbrev position : List ℕ
+    position = unrank (8 * rings) m o r
 
-      -- for every n up to the limit the entry is n exactly when one side can force a win within n plies and within no fewer
-      pub entry-exact : (n : ℕ) → n ≤ limit
-          → (entry ≡ n → ForcedIn (successors (removable edition) rings) (λ b. wholeSeed b) n position)
-          × (ForcedIn (successors (removable edition) rings) (λ b. wholeSeed b) n position → entry ≡ n)
-      entry-exact n l =
-          let f = fill-accepted p in
-          let e = f .1 .entries m o r t h in (
-            λ v. subst (λ (i : ℕ). ForcedIn (successors (removable edition) rings) (λ b. wholeSeed b) i position) v
-                (entry-forced (successors (removable edition) rings) (λ b. wholeSeed b) position e (omega (arith, v, f .0 .limit-high))),
-            λ w. forced-entry (successors (removable edition) rings) (λ b. wholeSeed b) position e n w,
-          )
+    -- for every n up to the limit the entry is n exactly when one side can force a win within n plies and within no fewer
+    pub entry-exact : (n : ℕ) → n ≤ limit
+        → (entry ≡ n → ForcedIn (successors (removable edition) rings) (λ b. wholeSeed b) n position)
+        × (ForcedIn (successors (removable edition) rings) (λ b. wholeSeed b) n position → entry ≡ n)
+    entry-exact n l =
+        let f = fill-accepted p in
+        let e = f .1 .entries m o r t h in (
+          λ v. subst (λ (i : ℕ). ForcedIn (successors (removable edition) rings) (λ b. wholeSeed b) i position) v
+              (entry-forced (successors (removable edition) rings) (λ b. wholeSeed b) position e (omega (arith, v, f .0 .limit-high))),
+          λ w. forced-entry (successors (removable edition) rings) (λ b. wholeSeed b) position e n w,
+        )
 
-      -- and draw exactly when neither can within any number of plies
-      pub draw-exact : (entry ≡ drawEntry → Draw (successors (removable edition) rings) (λ b. wholeSeed b) position)
-          × (Draw (successors (removable edition) rings) (λ b. wholeSeed b) position → entry ≡ drawEntry)
-      draw-exact =
-          let e = fill-accepted p .1 .entries m o r t h in (
-            λ v. entry-draw (successors (removable edition) rings) (λ b. wholeSeed b) position e v,
-            λ w. draw-entry
-                (successors (removable edition) rings) (λ b. wholeSeed b) position e w,
-          )
+    -- and draw exactly when neither can within any number of plies
+    pub draw-exact : (entry ≡ drawEntry → Draw (successors (removable edition) rings) (λ b. wholeSeed b) position)
+        × (Draw (successors (removable edition) rings) (λ b. wholeSeed b) position → entry ≡ drawEntry)
+    draw-exact =
+        let e = fill-accepted p .1 .entries m o r t h in (
+          λ v. entry-draw (successors (removable edition) rings) (λ b. wholeSeed b) position e v,
+          λ w. draw-entry (successors (removable edition) rings) (λ b. wholeSeed b) position e w,
+        )
 
   -- 13: the conditions held, and some position has a forced end beyond the limit
   pub fill-too-deep : FillCall rings edition k limit before after (refused 13)
-      → (refusal (fillPicks rings edition k limit (length before)) ≡ 0) × TooDeep (removable edition) rings k limit (AllTables rings k)
-      (λ b. wholeSeed b) before after
-  fill-too-deep p = promised.deep-fill (fillPicks rings edition k limit (length before)) (promised.fill-last rings edition k limit (length before)) _
-      before after p
+      → (refusal (fillPicks rings edition k limit (length before)) ≡ 0)
+      × TooDeep (removable edition) rings k limit (AllTables rings k) (λ b. wholeSeed b) before after
+  fill-too-deep p = promised.deep-fill (fillPicks rings edition k limit (length before))
+      (promised.fill-last rings edition k limit (length before)) _ before after p
 
   -- and where they hold and some position has, 13 is answered
   pub too-deep-fill : (a : Answer) → FillCall rings edition k limit before after a → refusal (fillPicks rings edition k limit (length before)) ≡ 0
       → Beyond (removable edition) rings k limit → a ≡ refused 13
   too-deep-fill a p e d = deep-answer (removable edition) rings k limit (AllTables rings k) (λ b. wholeSeed b) before after a
-      (promised.either-way (fillPicks rings edition k limit (length before)) (promised.fill-last rings edition k limit (length before)) _ before after
-      a e p)
+      (promised.either-way (fillPicks rings edition k limit (length before)) (promised.fill-last rings edition k limit (length before)) _
+      before after a e p)
       (d .mover) (d .opponent) (d .rank) (d .in-table) (d .rank-low) (d .plies) (d .forced) (d .beyond)
 
 -- two accepted fills of one size under one edition leave one tablebase, whatever the buffers held and whatever the limits
@@ -115,8 +114,7 @@ fill-one rings edition k limit limit′ a b a′ b′ p q =
 
 -- two entries, of one fill or of two, are equal exactly when the outcomes are, each under the edition of its fill
 pub entries-outcomes : (rings rings′ edition edition′ k k′ limit limit′ : ℕ) (a b a′ b′ : List ℕ) → FillCall rings edition k limit a a′ (accepted [])
-    → FillCall rings′ edition′ k′ limit′ b b′
-    (accepted [])
+    → FillCall rings′ edition′ k′ limit′ b b′ (accepted [])
     → (m o r m′ o′ r′ : ℕ) → AllTables rings k m o → r < size (8 * rings) m o → AllTables rings′ k′ m′ o′ → r′ < size (8 * rings′) m′ o′ → (x y : Outcome)
     → HasOutcome (successors (removable edition) rings) (λ c. wholeSeed c) (unrank (8 * rings) m o r) x
     → HasOutcome (successors (removable edition′) rings′) (λ c. wholeSeed c) (unrank (8 * rings′) m′ o′ r′) y
@@ -131,8 +129,8 @@ entries-outcomes rings rings′ edition edition′ k k′ limit limit′ a b a�
 pub pair-accepted : (rings edition m o k limit : ℕ) (before after : List ℕ) → FillPairCall rings edition m o k limit before after (accepted [])
     → Pair rings k m o × Filled (removable edition) rings k limit (BothTables m o) (λ b. pairSeed rings k m o before b) before after
 pair-accepted rings edition m o k limit before after p =
-    let f = promised.accepted-fill (pairPicks rings edition m o k limit before) (promised.pair-last rings edition m o k limit before) _ before after
-    p in
+    let f = promised.accepted-fill (pairPicks rings edition m o k limit before)
+    (promised.pair-last rings edition m o k limit before) _ before after p in
     (pair-met rings edition m o k limit before (f .0), f .1)
 
 -- 13 of a pair, both ways

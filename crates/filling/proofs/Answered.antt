@@ -114,8 +114,8 @@ module _ (rule : Rule) (takes : TakesOpponent rule) (rings k m o : ℕ) (a b : T
     look x y r t same side h = decided-is rule takes rings k m o (s .pair) x y t same side r h now
 
     -- it finds none: every entry is true
-    pub nothing-decided : PairFound rule rings a b now false → Filled rule rings k limit (BothTables m o) (λ x. pairSeed rings k m o before x) before
-        now
+    pub nothing-decided : PairFound rule rings a b now false → Filled rule rings k limit (BothTables m o)
+        (λ x. pairSeed rings k m o before x) before now
     nothing-decided f = all-true (settled (successors rule rings) (λ x. pairSeed rings k m o before x) (OnPair rings m o)
         (pair-ground rule takes rings k m o (s .pair) before valid)
         level low (λ c. successorEntry rings k now c) (st .exact) (λ c i e v. undecided c (live-pair rings k m o (s .pair) before valid c i e) v))

@@ -180,8 +180,8 @@ module _ (rule : Rule) (takes : TakesOpponent rule) (rings k m o : ℕ) (a b : T
           bad e (inl q) = omega arith
           bad e (inr q) = omega arith
 
-  pub state-next : (then : ℕ) → then ≡ suc (pairLeast a b level after) → (level < then) × State rule takes rings k m o a b before s valid limit then
-      after
+  pub state-next : (then : ℕ) → then ≡ suc (pairLeast a b level after)
+      → (level < then) × State rule takes rings k m o a b before s valid limit then after
   state-next then e =
       let r = least-range rings k m o a b after here level low in (
         omega (arith, r .0),

@@ -58,17 +58,14 @@ module _ (rule : Rule) (takes : TakesOpponent rule) (commutes : Commutes rule) (
   table-step x y t same side D now w fits = record {
     at-level = record {
       kept = level-kept rule takes commutes rings k m o (s .pair) before valid maps group mirrored picked picks x y t same side level pos low now fits
-          D (w .at-level .amid)
-          (w .symmetric)
+          D (w .at-level .amid) (w .symmetric)
           (w .at-level .kept) room;
       amid = level-table rule takes commutes rings k m o (s .pair) before valid maps group mirrored picked picks x y t same side level pos low now
-          fits D
-          (w .at-level .amid) (w .symmetric)
+          fits D (w .at-level .amid) (w .symmetric)
           (w .at-level .kept) room;
     };
     symmetric = level-symmetric rule takes commutes rings k m o (s .pair) before valid maps group mirrored picked picks x y t same side level pos low
-        now fits D
-        (w .at-level .amid) (w .symmetric)
+        now fits D (w .at-level .amid) (w .symmetric)
         (w .at-level .kept) room;
   }
     where

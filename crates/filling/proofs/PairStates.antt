@@ -56,14 +56,14 @@ module _ (rule : Rule) (takes : TakesOpponent rule) (rings k m o : ℕ) (a b : T
       twice : List ℕ
       twice = blockedFirst rings b once (size (8 * rings) (b .mover) (b .opponent))
 
-      once-done : AtLevel rule takes rings k m o a b before s valid 0 (omega arith) (Once rule takes rings k m o a b before s valid 0 (omega arith))
-          once
+      once-done : AtLevel rule takes rings k m o a b before s valid 0 (omega arith)
+          (Once rule takes rings k m o a b before s valid 0 (omega arith)) once
       once-done = blocked-step rule takes rings k m o a b before s valid 0 (omega arith) m o a (b .own .start) (first-side s)
-          (None rule takes rings k m o a b before s valid 0 (omega arith)) now (level-begun rule takes rings k m o a b before s valid 0 (omega arith)
-          limit now st) refl
+          (None rule takes rings k m o a b before s valid 0 (omega arith)) now
+          (level-begun rule takes rings k m o a b before s valid 0 (omega arith) limit now st) refl
 
-      twice-done : AtLevel rule takes rings k m o a b before s valid 0 (omega arith) (Twice rule takes rings k m o a b before s valid 0 (omega arith))
-          twice
+      twice-done : AtLevel rule takes rings k m o a b before s valid 0 (omega arith)
+          (Twice rule takes rings k m o a b before s valid 0 (omega arith)) twice
       twice-done = blocked-step rule takes rings k m o a b before s valid 0 (omega arith) o m b (a .own .start) (second-side s)
           (Once rule takes rings k m o a b before s valid 0 (omega arith)) once once-done refl
 

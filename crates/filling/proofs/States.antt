@@ -53,8 +53,8 @@ module _ (rule : Rule) (takes : TakesOpponent rule) (rings k m o : ℕ) (a b : T
     (valid : LowerValid rings k m o before) where
   -- every position of the pair has its depth if that is below the level, and is open otherwise
   abbrev pub ExactBelow : ℕ → List ℕ → Type 0
-  ExactBelow level now = Exact (successors rule rings) (λ c. pairSeed rings k m o before c) (OnPair rings m o) (λ c. successorEntry rings k now c)
-      level
+  ExactBelow level now = Exact (successors rule rings) (λ c. pairSeed rings k m o before c)
+      (OnPair rings m o) (λ c. successorEntry rings k now c) level
 
   -- before a level; past the last that can write anything, every entry is true
   pub record State (limit level : ℕ) (now : List ℕ) : Type 0 where
@@ -118,8 +118,7 @@ module _ (rule : Rule) (takes : TakesOpponent rule) (rings k m o : ℕ) (a b : T
             kept = kept-then rings k (BothTables m o) before now (blockedFirst rings t now (size (8 * rings) x y)) (w .kept)
                 (blocked-kept rings k m o (s .pair) x y t same side now (size (8 * rings) x y) (omega arith));
             amid = subst (λ (n : ℕ). Amid rule takes rings k m o (s .pair) before valid n DoneToo (blockedFirst rings t now (size (8 * rings) x y)))
-                (sym z)
-                (blocked-table rule takes rings k m o (s .pair) x y t same side before valid D now (w .kept .same-length ∙ s .room)
+                (sym z) (blocked-table rule takes rings k m o (s .pair) x y t same side before valid D now (w .kept .same-length ∙ s .room)
                 (subst (λ (n : ℕ). Amid rule takes rings k m o (s .pair) before valid n D now) z (w .amid)));
           }
 
@@ -135,8 +134,8 @@ module _ (rule : Rule) (takes : TakesOpponent rule) (rings k m o : ℕ) (a b : T
     pub level-begun : (limit : ℕ) (now : List ℕ) → State limit level now → AtLevel None now
     level-begun limit now st = record {
       kept = st .kept;
-      amid = level-start (successors rule rings) (λ c. pairSeed rings k m o before c) (OnPair rings m o) (λ c. successorEntry rings k now c) level
-          (st .exact);
+      amid = level-start (successors rule rings) (λ c. pairSeed rings k m o before c) (OnPair rings m o)
+          (λ c. successorEntry rings k now c) level (st .exact);
     }
 
     -- once every board of the pair is done, the level is

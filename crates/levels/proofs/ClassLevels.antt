@@ -134,12 +134,11 @@ module _ (rule : Rule) (takes : TakesOpponent rule) (commutes : Commutes rule) (
           (pair-ground rule takes rings k m o pair before valid) level low
           (λ b. successorEntry rings k clean b) (view rings k marks-of) marks-view D w;
       symmetric = symmetric-same (successors rule rings) (λ c. pairSeed rings k m o before c) (OnPair rings m o) maps (λ g c. image rings g c)
-          (mapped rule takes commutes rings k m o pair before valid maps group mirrored) (λ b. successorEntry rings k clean b) (view rings k marks-of)
-          marks-view symmetric;
+          (mapped rule takes commutes rings k m o pair before valid maps group mirrored) (λ b. successorEntry rings k clean b)
+          (view rings k marks-of) marks-view symmetric;
       marks = λ q i v. (whose q i v (the-marks .at (placeOf rings k q)), omega arith);
       pending = λ p i d. go p i (found-image rule takes commutes rings k m o pair before valid maps group mirrored picked picks x y t same side level
-          pos low clean
-          fits D w symmetric p i d) (the-marks .at (placeOf rings k p));
+          pos low clean fits D w symmetric p i d) (the-marks .at (placeOf rings k p));
     }
       where
         rest : (j : ℕ) → ((a b r : ℕ) → BothTables m o a b → r < size (8 * rings) a b → start (8 * rings) k a b + r ≡ j → ⊥)
@@ -175,13 +174,12 @@ module _ (rule : Rule) (takes : TakesOpponent rule) (commutes : Commutes rule) (
     abbrev last : List ℕ
     last = levelByClasses rule rings t same level maps picked clean
 
-    end-judging : Judging rule takes commutes rings k m o pair before valid maps group mirrored x y t same side level low D (size (8 * rings) x y)
-        last
+    end-judging : Judging rule takes commutes rings k m o pair before valid maps group mirrored x y
+        t same side level low D (size (8 * rings) x y) last
     unfolding levelByClasses
     end-judging =
         subst (λ (n : ℕ). Judging rule takes commutes rings k m o pair before valid maps group mirrored x y t same side level low D
-        (size (8 * rings) x y)
-        (judgedFirst rule rings t same level maps marks-of n)) (sym (sizes rings k m o pair x y t same side))
+        (size (8 * rings) x y) (judgedFirst rule rings t same level maps marks-of n)) (sym (sizes rings k m o pair x y t same side))
         (judged-all rule takes commutes rings k m o pair before valid maps group mirrored x y t same side level low D marks-of start-judging
         (size (8 * rings) x y) (omega arith))
 

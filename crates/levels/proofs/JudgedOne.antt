@@ -82,8 +82,8 @@ module _ (rule : Rule) (takes : TakesOpponent rule) (commutes : Commutes rule) (
       -- what the code reads of the successors
       seen-is : hit (successors rule rings) (judged rings t same now) level (boardAt rings t same n)
           ≡ hit (successors rule rings) (view rings k now) level (unrank (8 * rings) x y n)
-      seen-is = hit-is rule takes rings k m o pair x y t same side n h now level ∙ sym
-          (hit-view rule rings k level (omega arith) now (unrank (8 * rings) x y n))
+      seen-is = hit-is rule takes rings k m o pair x y t same side n h now level
+          ∙ sym (hit-view rule rings k level (omega arith) now (unrank (8 * rings) x y n))
 
       -- the board of rank n is told by its rank
       rank-b : (q : List ℕ) → InTable rings x y q → rank q ≡ n → q ≡ unrank (8 * rings) x y n
@@ -161,8 +161,7 @@ module _ (rule : Rule) (takes : TakesOpponent rule) (commutes : Commutes rule) (
                 (pair-ground rule takes rings k m o pair before valid) level low
                 (view rings k now) (view rings k (set now (placeOf rings k (unrank (8 * rings) x y n)) drawEntry)) reset-view D (w .amid);
             symmetric = symmetric-same (successors rule rings) (λ c. pairSeed rings k m o before c) (OnPair rings m o) maps (λ g c. image rings g c)
-                mapped
-                (view rings k now)
+                mapped (view rings k now)
                 (view rings k (set now (placeOf rings k (unrank (8 * rings) x y n)) drawEntry)) reset-view (w .symmetric);
             marks = λ q i v. go q i v (same-on rings k m o pair (unrank (8 * rings) x y n) q own-b (on-pair i));
             pending = λ p i d. still p i d (w .pending p i d);
@@ -184,11 +183,11 @@ module _ (rule : Rule) (takes : TakesOpponent rule) (commutes : Commutes rule) (
                   inr (
                     q,
                     f,
-                    reset-entry q (pair-table (side .both) (image-own rule takes commutes rings k m o pair before valid maps group mirrored x y p q i
-                        f))
+                    reset-entry q
+                        (pair-table (side .both) (image-own rule takes commutes rings k m o pair before valid maps group mirrored x y p q i f))
                         (λ e. shallow (subst (DepthIs level) e
-                        (image-depth (successors rule rings) (λ c. pairSeed rings k m o before c) (OnPair rings m o) maps (λ g c. image rings g c)
-                        mapped
+                        (image-depth (successors rule rings) (λ c. pairSeed rings k m o before c)
+                        (OnPair rings m o) maps (λ g c. image rings g c) mapped
                         (pair-ground rule takes rings k m o pair before valid .closed) level p q (on-pair (pair-table (side .both) i)) f d))) ∙ v,
                   )
 
@@ -256,8 +255,7 @@ module _ (rule : Rule) (takes : TakesOpponent rule) (commutes : Commutes rule) (
                     a .0,
                     later q (a .0) (a .1) (λ e. out (subst (Of (unrank (8 * rings) x y n)) (sym e)
                         (image-self (successors rule rings) (λ c. pairSeed rings k m o before c) (OnPair rings m o) maps (λ g c. image rings g c)
-                        mapped
-                        (unrank (8 * rings) x y n)
+                        mapped (unrank (8 * rings) x y n)
                         on-b))),
                   )
 
@@ -271,15 +269,13 @@ module _ (rule : Rule) (takes : TakesOpponent rule) (commutes : Commutes rule) (
                   inr (
                     q,
                     f,
-                    elsewhere-own q (pair-table (side .both) (image-own rule takes commutes rings k m o pair before valid maps group mirrored x y p q
-                        i f))
+                    elsewhere-own q
+                        (pair-table (side .both) (image-own rule takes commutes rings k m o pair before valid maps group mirrored x y p q i f))
                         (λ a. out
                         (image-trans (successors rule rings) (λ c. pairSeed rings k m o before c) (OnPair rings m o) maps (λ g c. image rings g c)
-                        mapped
-                        (unrank (8 * rings) x y n)
-                        q p on-b a
-                        (image-sym (successors rule rings) (λ c. pairSeed rings k m o before c) (OnPair rings m o) maps (λ g c. image rings g c)
-                        mapped p q s f))) ∙ v,
+                        mapped (unrank (8 * rings) x y n) q p on-b a
+                        (image-sym (successors rule rings) (λ c. pairSeed rings k m o before c) (OnPair rings m o)
+                        maps (λ g c. image rings g c) mapped p q s f))) ∙ v,
                   )
 
       -- one position judged

@@ -77,8 +77,8 @@ module _ (rule : Rule) (takes : TakesOpponent rule) (rings k m o : ℕ) (pair : 
 
     fewer : (E F : List ℕ → Type 0) (now : List ℕ) → ((b : List ℕ) → F b → E b) → Amid rule takes rings k m o pair before valid 0 E now
         → Amid rule takes rings k m o pair before valid 0 F now
-    fewer E F now = within-fewer (successors rule rings) (λ c. pairSeed rings k m o before c) (OnPair rings m o) (λ b. successorEntry rings k now b) 0
-        E F
+    fewer E F now = within-fewer (successors rule rings) (λ c. pairSeed rings k m o before c)
+        (OnPair rings m o) (λ b. successorEntry rings k now b) 0 E F
 
     last : (n : ℕ) (b : List ℕ) → Done (suc n) b → Done n b ⊎ (b ≡ unrank (8 * rings) x y n)
     last n b (inl d) = inl (inl d)

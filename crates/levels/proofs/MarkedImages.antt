@@ -127,8 +127,7 @@ module _ (rule : Rule) (takes : TakesOpponent rule) (commutes : Commutes rule) (
         let (q, ply, on-q, all-images) =
         sources-image (successors rule rings) (λ c. pairSeed rings k m o before c) (OnPair rings m o) maps (λ g c. image rings g c)
         (mapped rule takes commutes rings k m o pair before valid maps group mirrored) (pair-ground rule takes rings k m o pair before valid)
-        (level - 1)
-        (omega arith) (λ b. successorEntry rings k clean b) D
+        (level - 1) (omega arith) (λ b. successorEntry rings k clean b) D
         (subst (λ (n : ℕ). Within (successors rule rings) (λ c. pairSeed rings k m o before c) (OnPair rings m o)
         (λ b. successorEntry rings k clean b) n D) e w)
         symmetric
@@ -153,8 +152,7 @@ module _ (rule : Rule) (takes : TakesOpponent rule) (commutes : Commutes rule) (
             (pair-ground rule takes rings k m o pair before valid .closed) g l level p on-p d
 
         go : (g : ℕ) → g < maps → (q : List ℕ) → List·Memᴰ q (successors rule rings (image rings g p)) → successorEntry rings k clean q ≡ level - 1
-            → picked q ≡ true
-            → Fresh (successors rule rings) (λ c. pairSeed rings k m o before c) (OnPair rings m o) level
+            → picked q ≡ true → Fresh (successors rule rings) (λ c. pairSeed rings k m o before c) (OnPair rings m o) level
             (successorEntry rings k clean (image rings g p))
             (image rings g p)
             → (successorEntry rings k clean p ≡ level) ⊎ ((g : ℕ) × (g < maps) × (entryAt rings k marks-of (image rings g p) ≡ voidEntry))

@@ -68,8 +68,8 @@ module _ (rule : Rule) (takes : TakesOpponent rule) (rings k m o : ℕ) (pair : 
       go (below f t) = lower-true f (t .0) (entry-true b s t)
 
   -- so both games end within the same n
-  ended-same : (n : ℕ) (b : List ℕ) → OnPair rings m o b → ended (successors rule rings) (λ c. wholeSeed c) n b ≡ ended (successors rule rings)
-      (λ c. seed c) n b
+  ended-same : (n : ℕ) (b : List ℕ) → OnPair rings m o b → ended (successors rule rings) (λ c. wholeSeed c) n b
+      ≡ ended (successors rule rings) (λ c. seed c) n b
   ended-same = same-ended (successors rule rings) (λ c. wholeSeed c) (λ c. seed c) (OnPair rings m o)
       (pair-ground rule takes rings k m o pair before valid .closed) faithful
 

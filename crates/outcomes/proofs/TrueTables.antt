@@ -73,8 +73,8 @@ module _ (rule : Rule) (takes : TakesOpponent rule) (rings k m o : ℕ) (pair : 
       entry x y r t h (inl b) = g .entries x y r b h
       entry x y r (inr b) h (inr out) = absurd (out b)
       entry x y r (inl t) h (inr out) =
-          subst (λ (e : ℕ). TrueEntry rule rings (unrank (8 * rings) x y r) e) (kept-entry before after (f .kept) x y r (range x y t) h out)
-          (w .entries x y r t h)
+          subst (λ (e : ℕ). TrueEntry rule rings (unrank (8 * rings) x y r) e)
+          (kept-entry before after (f .kept) x y r (range x y t) h out) (w .entries x y r t h)
 
       bound : WithinLimit rule rings limit (λ x y. T x y ⊎ BothTables m o x y)
       bound x y r (inl t) = w .within x y r t

@@ -39,7 +39,8 @@ module _ (rule : Rule) (rings k : ℕ) (seed : List ℕ → Seed) where
       entries-one a′ b′ (f .kept .same-length ∙ n) (g .kept .same-length ∙ n′) (f .entries) (g .entries)
 
 -- filled and too deep exclude each other, whatever was filled
-pub not-both : (rule : Rule) → (rings k limit : ℕ) (T : ℕ → ℕ → Type 0) (seed : List ℕ → Seed) (a b a′ b′ : List ℕ) → Filled rule rings k limit T seed a a′
+pub not-both : (rule : Rule) → (rings k limit : ℕ) (T : ℕ → ℕ → Type 0) (seed : List ℕ → Seed) (a b a′ b′ : List ℕ)
+    → Filled rule rings k limit T seed a a′
     → TooDeep rule rings k limit T seed b b′ → ⊥
 not-both rule rings k limit T seed a b a′ b′ f d =
     true≢false (sym (f .within (d .mover) (d .opponent) (d .rank) (d .in-table) (d .rank-low) (d .plies) (d .forced)) ∙ d .beyond)

@@ -23,7 +23,8 @@ use Rattle.outcomes.specs.Pair.{Pair, LowerTables, LowerValid}
 
 module _ (rule : Rule) (rings k : ℕ) (tablebase : List ℕ) where
   -- void among the successors, by what is read of them
-  pub read-void : (b : List ℕ) (read : List ℕ → ℕ) → ((c : List ℕ) → List·Memᴰ c (successors rule rings b) → read c ≡ successorEntry rings k tablebase c)
+  pub read-void : (b : List ℕ) (read : List ℕ → ℕ) → ((c : List ℕ) → List·Memᴰ c (successors rule rings b)
+      → read c ≡ successorEntry rings k tablebase c)
       → any (λ c. isVoid (read c)) (successors rule rings b) ≡ successorVoid rule rings k tablebase b
   unfolding successorVoid
   read-void b read h = any-same _ _ (successors rule rings b) (λ c m. ap isVoid (h c m))

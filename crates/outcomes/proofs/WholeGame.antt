@@ -58,8 +58,7 @@ whole-closed rule takes rings k small b w e = successor-reached rule takes rings
 
 -- a board of a table that holds true entries
 pub table-true : (rule : Rule) → (rings k : ℕ) (T : ℕ → ℕ → Type 0) (tablebase : List ℕ) → TrueEntries rule rings k T tablebase → (b : List ℕ)
-    → InTables rings k b
-    → T (count 1 b) (count 2 b) → TrueEntry rule rings b (entryAt rings k tablebase b)
+    → InTables rings k b → T (count 1 b) (count 2 b) → TrueEntry rule rings b (entryAt rings k tablebase b)
 table-true rule rings k T tablebase entries b s t =
     let w = own-table rings k b s in
     subst₂ (λ (c : List ℕ) (e : ℕ). TrueEntry rule rings c e) (unrank-of rings (count 1 b) (count 2 b) b w) (entry-rank rings k tablebase b)

@@ -61,8 +61,8 @@ pub fn level_pair(
     requires { ⌜ Lent (maps .rings) (now binomials) (now masks) ⌝ }
     requires { ⌜ PairSweeping (now images) (length (now tablebase)) maps tables level ⌝ }
     ensures { λ _. ⌜ now (tablebase .exit)
-        ≡ pairByClasses (removable edition) (maps .rings) (tables .first) (tables .second) level (maps .count) (leastOfClass (maps .rings) (maps .count))
-        (now (tablebase .entry)) ⌝ }
+        ≡ pairByClasses (removable edition) (maps .rings) (tables .first) (tables .second) level (maps .count)
+        (leastOfClass (maps .rings) (maps .count)) (now (tablebase .entry)) ⌝ }
 {
     let first = tables.first;
     let second = tables.second;

@@ -1,5 +1,5 @@
--- The calls `moves` and `make_move` together, under one edition: a list of 324 places is never too short, it has captures first, each listed move is made, and the board
--- after it is accepted again unless its mover is left with two stones. Assumes nothing.
+-- The calls `moves` and `make_move` together, under one edition: a list of 324 places is never too short, it has captures first, each listed move is
+-- made, and the board after it is accepted again unless its mover is left with two stones. Assumes nothing.
 use mathlib.Core.Path.{_≡_, sym, ap, _∙_}
 use mathlib.Core.Bool.{Bool, true, cond, not}
 use mathlib.Core.List.{List, [], _∷_}
@@ -42,12 +42,12 @@ module _ (rings edition : ℕ) (b : List ℕ) (e : refusal (ruledPicks rings edi
   list-enough old room =
       let w = board in
       let c = w .counted in
-      let few = listed-bound edition rings (w .rings-high) b (w .points) (w .values) (c .mover-high) (omega (arith, c .opponent-low))
-      (c .opponent-high) in
+      let few = listed-bound edition rings (w .rings-high) b (w .points) (w .values) (c .mover-high)
+      (omega (arith, c .opponent-low)) (c .opponent-high) in
       let n : ℕ = length (listedMoves (removable edition) rings b) in
       let z : 0 ≡ refusal (listPicks rings edition b (length old) n) =
-      sym (list-decides rings edition b (length old) n (sym e) ∙ ap (λ (t : Bool). cond t 7 0) (le-ltb (length old) n (omega (arith, few, room))))
-      in (
+      sym (list-decides rings edition b (length old) n (sym e) ∙ ap (λ (t : Bool). cond t 7 0)
+      (le-ltb (length old) n (omega (arith, few, room)))) in (
         sym (answer-accepted (refusal (listPicks rings edition b (length old) n)) (n ∷ []) z),
         sym (target-written (refusal (listPicks rings edition b (length old) n)) (sets old 0 (listedMoves (removable edition) rings b)) old z),
       )

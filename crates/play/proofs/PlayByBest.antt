@@ -1,7 +1,7 @@
--- Play by best moves (document 01): "On a shelf filled whole by one accepted call and unchanged since, from a won entry n, a mover who always takes best moves wins
--- the game in at most n plies." On every board of such play with the mover to move, `lookup` answers a won entry that is no higher than the plies left of
--- n, `best_move` accepts, and `make_move` makes what it answers. Best moves are asked for under the edition of the fill (document 02, A11); a lookup may
--- name either. Assumes nothing.
+-- Play by best moves (document 01): "On a shelf filled whole by one accepted call and unchanged since, from a won entry n, a mover who always takes
+-- best moves wins the game in at most n plies." On every board of such play with the mover to move, `lookup` answers a won entry that is no higher than
+-- the plies left of n, `best_move` accepts, and `make_move` makes what it answers. Best moves are asked for under the edition of the fill (document 02,
+-- A11); a lookup may name either. Assumes nothing.
 use mathlib.Core.Path.{_≡_, sym, ap, subst, _∙_}
 use mathlib.Core.Bool.{true, false}
 use mathlib.Core.List.{List, [], _∷_, List·Memᴰ}
@@ -87,7 +87,8 @@ pub record Told (rings edition k : ℕ) (tablebase : List ℕ) (n : ℕ) (b : Li
       ∷ successorEntry rings k tablebase (bestSuccessor (removable edition) rings k tablebase b) ∷ [])
   pub made : (old : List ℕ) → length old ≡ 8 * rings
       → (makeMoveCall rings edition b (bestListed (removable edition) rings k tablebase b) old ≡ accepted [])
-      × (makeMoveTarget rings edition b (bestListed (removable edition) rings k tablebase b) old ≡ bestSuccessor (removable edition) rings k tablebase b)
+      × (makeMoveTarget rings edition b (bestListed (removable edition) rings k tablebase b)
+      old ≡ bestSuccessor (removable edition) rings k tablebase b)
 
 -- a tablebase that holds the true entries under an edition, and a board that is won within n plies
 module _ (rings edition k : ℕ) (fine : editionWrong edition ≡ false) (tablebase : List ℕ) (whole : AcceptedTablebase rings k (length tablebase))
@@ -104,7 +105,8 @@ module _ (rings edition k : ℕ) (fine : editionWrong edition ≡ false) (tableb
 
   best-made : (old : List ℕ) → length old ≡ 8 * rings
       → (makeMoveCall rings edition b (bestListed (removable edition) rings k tablebase b) old ≡ accepted [])
-      × (makeMoveTarget rings edition b (bestListed (removable edition) rings k tablebase b) old ≡ bestSuccessor (removable edition) rings k tablebase b)
+      × (makeMoveTarget rings edition b (bestListed (removable edition) rings k tablebase b)
+      old ≡ bestSuccessor (removable edition) rings k tablebase b)
   unfolding bestSuccessor bestListed
   best-made =
       listed-made rings edition b (both-right rings edition b k (length tablebase) (right edition fine) .0)

@@ -43,5 +43,5 @@ module _ (rings : ℕ) (position : Position) (placed : Placed rings position) wh
   none-movable t e =
       ap not e
       ∙ sym (blocked-is ∙ ap (all (λ from. isEmpty (destinations rings board from))) (stones-given rings position placed)
-      ∙ all-none (λ from. isEmpty (destinations rings board from)) (λ from. movable rings position from) (elements 32 (position .mover))
-      (λ from m. refl))
+      ∙ all-none (λ from. isEmpty (destinations rings board from)) (λ from. movable rings position from)
+      (elements 32 (position .mover)) (λ from m. refl))

@@ -39,8 +39,8 @@ module _ (points k m o : ℕ) where
           omega (arith, end-is points k x y, end-within points k record { mover-low = a; mover-high = b; opponent-low = c; opponent-high = d })
 
 -- the successors of a board of table (x, y)
-module _ (rule : Rule) (takes : TakesOpponent rule) (rings k x y : ℕ) (small : rings ≤ 3) (low : 3 ≤ y) (p : List ℕ) (w : InTable rings x y p)
-    (now : List ℕ) where
+module _ (rule : Rule) (takes : TakesOpponent rule) (rings k x y : ℕ) (small : rings ≤ 3) (low : 3 ≤ y)
+    (p : List ℕ) (w : InTable rings x y p) (now : List ℕ) where
   abbrev same : ℕ
   same = start (8 * rings) k y x
 

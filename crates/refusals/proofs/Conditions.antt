@@ -221,7 +221,8 @@ module _ (rings edition : ℕ) (b : List ℕ) where
     -- and a move after that
     pub move-refused : (move n : ℕ) → (n ≡ 0 → ⊥) → n ≡ refusal (targetPicks rings edition b room) → n ≡ refusal (movePicks rings edition b move room)
     move-refused move n z e =
-        first-kept (pickedRows refusalTable (targetPicks rings edition b room)) (record { holds = moveWrong rings edition b move; number = 8 } ∷ []) n z e
+        first-kept (pickedRows refusalTable (targetPicks rings edition b room))
+        (record { holds = moveWrong rings edition b move; number = 8 } ∷ []) n z e
 
     pub move-decides : (move : ℕ) → 0 ≡ refusal (targetPicks rings edition b room)
         → refusal (movePicks rings edition b move room) ≡ cond (moveWrong rings edition b move) 8 0

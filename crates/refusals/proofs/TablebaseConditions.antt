@@ -169,11 +169,13 @@ module _ (rings edition m o k limit n : ℕ) where
 
   module _ (ruled : 0 ≡ refusal (editionPicks rings edition)) where
     pub tables-refused : (r : ℕ) → (r ≡ 0 → ⊥) → r ≡ refusal (stonesPicks rings m o) → r ≡ refusal (tablesPicks rings edition m o k limit n)
-    tables-refused r z e = first-kept (pickedRows refusalTable (stonesPicks rings m o)) later r z e ∙ sym (edition-decides rings edition counted rings-first ruled)
+    tables-refused r z e = first-kept (pickedRows refusalTable (stonesPicks rings m o)) later r z e
+        ∙ sym (edition-decides rings edition counted rings-first ruled)
 
     pub tables-decides : 0 ≡ refusal (stonesPicks rings m o)
         → refusal (tablesPicks rings edition m o k limit n) ≡ refusal (limitPicks rings k (countAbove k m o) limit n)
-    tables-decides e = edition-decides rings edition counted rings-first ruled ∙ first-after (pickedRows refusalTable (stonesPicks rings m o)) later refl e
+    tables-decides e = edition-decides rings edition counted rings-first ruled
+        ∙ first-after (pickedRows refusalTable (stonesPicks rings m o)) later refl e
 
 -- a limit comes after K and the tablebase
 module _ (rings k : ℕ) (above : Bool) (limit n : ℕ) where
@@ -188,7 +190,8 @@ module _ (rings edition : ℕ) (b : List ℕ) (k : ℕ) (tablebase : List ℕ) w
   abbrev rows : List Picked
   rows = pickedRows refusalTable (tablebasePicks rings edition b k (length tablebase))
 
-  pub lookup-refused : (n : ℕ) → (n ≡ 0 → ⊥) → n ≡ refusal (tablebasePicks rings edition b k (length tablebase)) → n ≡ refusal (lookupPicks rings edition b k tablebase)
+  pub lookup-refused : (n : ℕ) → (n ≡ 0 → ⊥) → n ≡ refusal (tablebasePicks rings edition b k (length tablebase))
+      → n ≡ refusal (lookupPicks rings edition b k tablebase)
   lookup-refused n z e =
       first-kept rows
       (record { holds = isVoid (entryAt rings k tablebase b); number = 12 } ∷ []) n z e
@@ -204,17 +207,21 @@ module _ (rings edition : ℕ) (b : List ℕ) (k : ℕ) (tablebase : List ℕ) w
       (record { holds = isVoid (entryAt rings k tablebase b); number = 12 } ∷ []) refl e .0
 
   -- those of the successors, where the mover is not blocked
-  pub best-move-refused : (n : ℕ) → (n ≡ 0 → ⊥) → n ≡ refusal (tablebasePicks rings edition b k (length tablebase)) → n ≡ refusal (bestMovePicks rings edition b k tablebase)
+  pub best-move-refused : (n : ℕ) → (n ≡ 0 → ⊥) → n ≡ refusal (tablebasePicks rings edition b k (length tablebase))
+      → n ≡ refusal (bestMovePicks rings edition b k tablebase)
   best-move-refused n z e =
       first-kept rows
-      (record { holds = moverBlocked rings b; number = 9 } ∷ record { holds = successorVoid (removable edition) rings k tablebase b; number = 12 } ∷ []) n z e
+      (record { holds = moverBlocked rings b; number = 9 }
+      ∷ record { holds = successorVoid (removable edition) rings k tablebase b; number = 12 } ∷ []) n z e
 
   pub best-move-decides : 0 ≡ refusal (tablebasePicks rings edition b k (length tablebase))
-      → refusal (bestMovePicks rings edition b k tablebase) ≡ cond (moverBlocked rings b) 9 (cond (successorVoid (removable edition) rings k tablebase b) 12 0)
+      → refusal (bestMovePicks rings edition b k tablebase) ≡ cond (moverBlocked rings b) 9
+      (cond (successorVoid (removable edition) rings k tablebase b) 12 0)
   best-move-decides e =
       let last : List Picked = record { holds = successorVoid (removable edition) rings k tablebase b; number = 12 } ∷ [] in
       first-after rows (record { holds = moverBlocked rings b; number = 9 } ∷ last) refl e
-      ∙ first-cons (moverBlocked rings b) 9 last ∙ ap (cond (moverBlocked rings b) 9) (first-cons (successorVoid (removable edition) rings k tablebase b) 12 [])
+      ∙ first-cons (moverBlocked rings b) 9 last ∙ ap (cond (moverBlocked rings b) 9)
+      (first-cons (successorVoid (removable edition) rings k tablebase b) 12 [])
 
 -- those of a pair's lower tables
 module _ (rings edition m o k limit : ℕ) (tablebase : List ℕ) where
@@ -226,10 +233,12 @@ module _ (rings edition m o k limit : ℕ) (tablebase : List ℕ) where
 
   pub pair-decides : 0 ≡ refusal (tablesPicks rings edition m o k limit (length tablebase))
       → refusal (pairPicks rings edition m o k limit tablebase) ≡ cond (lowerVoid rings k tablebase m o) 12 0
-  pair-decides e = one-more (pickedRows refusalTable (tablesPicks rings edition m o k limit (length tablebase))) (lowerVoid rings k tablebase m o) 12 refl e
+  pair-decides e = one-more (pickedRows refusalTable (tablesPicks rings edition m o k limit (length tablebase)))
+      (lowerVoid rings k tablebase m o) 12 refl e
 
   -- no refusal at all: none before the lower tables are read
-  pub pair-before : refusal (pairPicks rings edition m o k limit tablebase) ≡ 0 → refusal (tablesPicks rings edition m o k limit (length tablebase)) ≡ 0
+  pub pair-before : refusal (pairPicks rings edition m o k limit tablebase) ≡ 0
+      → refusal (tablesPicks rings edition m o k limit (length tablebase)) ≡ 0
   pair-before e =
       both-passed (pickedRows refusalTable (tablesPicks rings edition m o k limit (length tablebase)))
       (record { holds = lowerVoid rings k tablebase m o; number = 12 } ∷ [])

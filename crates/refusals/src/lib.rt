@@ -1,4 +1,5 @@
-// Where a call is turned back: the numbers of document 01's table, and 20 of document 02. Its conditions and their order are definitions; the tests stand above, by subject.
+// Where a call is turned back: the numbers of document 01's table, and 20 of document 02. Its conditions and their order are definitions; the tests
+// stand above, by subject.
 
 // The refusal numbers.
 pub const RINGS: u8 = 1;

@@ -1,5 +1,5 @@
--- Worked boards, computed by the definitions: their lists of moves, each as document 01's rules give it by hand, captures first (document 02, A2), under
--- an edition (A11); and boards after a ply. Assumes nothing.
+-- Worked boards, computed by the definitions: their lists of moves under an edition, each as the rules of documents 01 and 02 (A11) give it by hand,
+-- captures first (A2); and boards after a ply. Assumes nothing.
 use mathlib.Core.Path.{_≡_, refl}
 use mathlib.Core.Bool.{Bool, true, false}
 use mathlib.Core.List.{List, [], _∷_, reverse}

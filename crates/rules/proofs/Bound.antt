@@ -1,5 +1,5 @@
--- How many moves a board can have under an edition: 324 at the most, nine stones of four neighbours or three of all vacant points, each with up to nine removals.
--- Assumes nothing.
+-- How many moves a board can have under an edition: 324 at the most, nine stones of four neighbours or three of all vacant points, each with up to
+-- nine removals. Assumes nothing.
 use mathlib.Core.Path.{_≡_, refl, sym, ap, subst, _∙_}
 use mathlib.Core.Bool.{Bool, true, false, not, _||_}
 use mathlib.Core.List.{List, [], _∷_, List·Memᴰ}

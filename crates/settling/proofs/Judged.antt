@@ -27,8 +27,8 @@ module _ (rule : Rule) (rings : ℕ) (t : Table) (same level maps : ℕ) where
   -- a marked position, as the code judges it
   pub judged-hit : (r : ℕ) (now : List ℕ) → isMarked t now r ≡ true → hit (successors rule rings) (judged rings t same now) level
       (boardAt rings t same r) ≡ true
-      → (b : List ℕ) → b ≡ boardAt rings t same r → imagesWritten rings (t .own .start) b level now maps ≡ judgedClass rule rings t same level maps
-      now r
+      → (b : List ℕ) → b ≡ boardAt rings t same r → imagesWritten rings (t .own .start) b level now maps
+      ≡ judgedClass rule rings t same level maps now r
   unfolding judgedClass
   judged-hit r now e h b f = rw (e, h, f, judgedClass)
 

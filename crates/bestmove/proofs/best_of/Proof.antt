@@ -79,8 +79,8 @@ returns c =
     let a = s .args in
     let b : List ℕ = boardOf (8 * a .rings) (a .position) in
     let f : ℕ → ℕ = λ m. entryBy (a .tablebase .now) (a .starts .same) (a .starts .fewer) b m in
-    running-all f (a .moves .now) (x .loop .i) (x .loop .best) (omega (arith, x .loop .inv .0, c .loop-test .left)) (s .pre .1 .some)
-    (λ m i. record {
+    running-all f (a .moves .now) (x .loop .i) (x .loop .best) (omega (arith, x .loop .inv .0, c .loop-test .left))
+    (s .pre .1 .some) (λ m i. record {
       small = probe-small (a .tablebase .now) (a .starts .same) (a .starts .fewer) (count 2 b) (afterPly b m)
           (λ j. omega (arith, k .shared-slice-known .given j));
       some = s .pre .1 .told m i;

@@ -28,7 +28,8 @@ returns-2 c =
     let a = x .before .before .before .args in
     let b : List ℕ = a .board .now in
     c .of-board .ensures
-    ∙ sym (edition-decides (a .rings) (a .edition) (boardPicks (a .rings) b) (rings-first (a .rings) b) (sym (x .if1 .left) ∙ x .before .of-edition .ensures))
+    ∙ sym (edition-decides (a .rings) (a .edition) (boardPicks (a .rings) b) (rings-first (a .rings) b)
+    (sym (x .if1 .left) ∙ x .before .of-edition .ensures))
 
 pub of-ruled-spec : {M : Type 1} → statement M
 of-ruled-spec = tie.close (tie.spec of-edition-requires returns of-board-requires returns-2)

@@ -12,7 +12,8 @@ use Rattle.board_refusals.proofs.of_target.Statement.{statement}
 use Rattle.board_refusals.proofs.of_target.Tie as tie
 
 -- past the first refusals, the board is accepted
-passed-board : (c : tie.Else1) → 0 ≡ refusal (ruledPicks (c .before .before .before .args .rings) (c .before .before .before .args .edition) (c .before .before .before .args .board .now))
+passed-board : (c : tie.Else1) → 0 ≡ refusal (ruledPicks (c .before .before .before .args .rings) (c .before .before .before .args .edition)
+    (c .before .before .before .args .board .now))
 passed-board c = sym (c .if1 .left) ∙ c .before .of-ruled .ensures
 
 points : (c : tie.Else1) → length (c .before .before .before .args .board .now) ≡ 8 * c .before .before .before .args .rings

@@ -1,4 +1,5 @@
--- `entry_calls::best_move` meets its contract: a refusal of rings, edition, board, K or tablebase, or what the choice at its position says. Assumes nothing.
+-- `entry_calls::best_move` meets its contract: a refusal of rings, edition, board, K or tablebase, or what the choice at its position says. Assumes
+-- nothing.
 use mathlib.Core.Path.{_≡_, sym, ap, _∙_}
 use lib.ListN.{length}
 use borrow.Author.Needs.{needs}

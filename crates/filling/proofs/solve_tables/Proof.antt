@@ -117,8 +117,7 @@ module _ (c : tie.After-level-pair Inv-loop μ-loop) (before : List ℕ) (w : Ta
       let maps : ℕ = s .args .maps in
       let g = group-of maps (s .pre .1 .used) in
       after-classes (rule s) (takes s) (commutes s) (rings s) (k s) (first s .mover) (first s .opponent) (first s) (second s) before w valid maps g
-      mirrored
-      (leastOfClass (rings s) maps) (least-picks (λ b. moverSet b) (rings s) (w .pair .small) maps g) (x .loop .level)
+      mirrored (leastOfClass (rings s) maps) (least-picks (λ b. moverSet b) (rings s) (w .pair .small) maps g) (x .loop .level)
       (state x .0) (c .before .before .loop-test .taken) (limit s) (x .loop .tablebase) st (c .level-pair .last .0) (c .level-pair .ensures)
 
 -- the tables are where they were
@@ -220,8 +219,7 @@ stepped c before w valid mirrored st =
     let s = entered x in
     let d = levelled l before w valid mirrored st in
     state-next (rule s) (takes s) (rings s) (k s) (first s .mover) (first s .opponent) (first s) (second s) before w valid (limit s) (x .loop .level)
-    (state x .0)
-    (l .before .before .loop-test .taken) (l .level-pair .last .0) (d .0) (d .1)
+    (state x .0) (l .before .before .loop-test .taken) (l .level-pair .last .0) (d .0) (d .1)
     (within-limit (rule s) (takes s) (rings s) (k s) (first s .mover) (first s .opponent) (first s) (second s) before w valid (limit s)
     (x .loop .level) (state x .0)
     (l .before .before .loop-test .taken) (x .loop .tablebase) st (l .level-pair .last .0) (d .1)

@@ -112,7 +112,8 @@ returns c =
     let e = counted-all _ (p .mover) (x .loop .captures) (x .loop .left) (x .loop .inv .0) (c .loop-test .left) in
     let d = counted-all _ (p .mover) (x .loop .others) (x .loop .left) (x .loop .inv .1) (c .loop-test .left) in (
       (
-        e ∙ ap length (moves-kept (removable (s .args .edition)) (s .args .rings) p (s .pre .placed) (λ m. isCapture m)),
+        e ∙ ap length (moves-kept (removable (s .args .edition)) (s .args .rings) p
+            (s .pre .placed) (λ m. isCapture m)),
         omega (
           arith,
           e,
@@ -121,7 +122,8 @@ returns c =
         ),
       ),
       (
-        d ∙ ap length (moves-kept (removable (s .args .edition)) (s .args .rings) p (s .pre .placed) (λ m. not (isCapture m))),
+        d ∙ ap length (moves-kept (removable (s .args .edition)) (s .args .rings) p
+            (s .pre .placed) (λ m. not (isCapture m))),
         omega (
           arith,
           d,

@@ -45,7 +45,8 @@ testing c = c .before .before
 
 -- past the first refusals the target has the board's length, the board is accepted, and its position shows it
 passed-target : (c : tie.Else1)
-    → 0 ≡ refusal (targetPicks (started c .args .rings) (started c .args .edition) (started c .args .board .now) (length (started c .args .target .now)))
+    → 0 ≡ refusal (targetPicks (started c .args .rings) (started c .args .edition) (started c .args .board .now)
+    (length (started c .args .target .now)))
 passed-target c = sym (c .if1 .left) ∙ c .before .of-target .ensures
 
 accepted : (c : tie.Else1)
@@ -119,8 +120,8 @@ returns-2 c =
     let d : f .after-ply .result ≡ positionOf (afterPly b (a .number)) =
     f .after-ply .ensures ∙ ap (λ (c : List ℕ). positionOf (afterPly c (a .number))) (shows (testing m) .back) in
     written _ _ _ _ _ _
-    (sym (move-decides (a .rings) (a .edition) b (length (a .target .now)) (a .number) (passed-target x) ∙ ap (λ (t : Bool). cond (not t) 8 0) e)) refl
-    (w .write-board .ensures ∙ ap₂ boardOf (room x) d ∙ after-back (a .rings) b (board x) (a .number) (makeable t))
+    (sym (move-decides (a .rings) (a .edition) b (length (a .target .now)) (a .number) (passed-target x) ∙ ap (λ (t : Bool). cond (not t) 8 0) e))
+    refl (w .write-board .ensures ∙ ap₂ boardOf (room x) d ∙ after-back (a .rings) b (board x) (a .number) (makeable t))
 
 returns-3 : tie.Need-returns-3
 unfolding makeMoveCall makeMoveTarget

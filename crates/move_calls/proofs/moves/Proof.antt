@@ -30,7 +30,8 @@ returns c =
     let a = c .before .before .before .before .args in
     let n = c .before .of-ruled .result in
     turned-back _ _ _ _ n (c .if1 .taken)
-    (list-refused (a .rings) (a .edition) (a .board .now) (length (a .list .now)) (length (listedMoves (removable (a .edition)) (a .rings) (a .board .now))) n (c .if1 .taken)
+    (list-refused (a .rings) (a .edition) (a .board .now) (length (a .list .now))
+    (length (listedMoves (removable (a .edition)) (a .rings) (a .board .now))) n (c .if1 .taken)
     (c .before .of-ruled .ensures))
 
 -- the start of the call, seen from past its first refusals; and those passed, seen from where the position is known

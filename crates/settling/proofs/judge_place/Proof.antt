@@ -41,8 +41,7 @@ returns c =
     let w = found s in
     c .before .before .write-images .ensures
     ∙ judged-hit (removable (a .sweep .edition)) (a .maps .rings) (a .sweep .table) (a .sweep .same) (a .sweep .level) (a .maps .count) (a .at .rank)
-    (a .tablebase .now)
-    (s .pre .1 .1 .marked)
+    (a .tablebase .now) (s .pre .1 .1 .marked)
     (sym (hit-at (removable (a .sweep .edition)) (a .maps .rings) (a .sweep .table) (a .sweep .same) (a .at .rank) (a .tablebase .now)
     (length (a .tablebase .now))
     (a .at .position) w (a .sweep .level))
@@ -82,8 +81,7 @@ returns-2 c =
     let w = found s in
     c .before .before .write-entry .ensures
     ∙ judged-miss (removable (a .sweep .edition)) (a .maps .rings) (a .sweep .table) (a .sweep .same) (a .sweep .level) (a .maps .count) (a .at .rank)
-    (a .tablebase .now)
-    (s .pre .1 .1 .marked)
+    (a .tablebase .now) (s .pre .1 .1 .marked)
     (sym (hit-at (removable (a .sweep .edition)) (a .maps .rings) (a .sweep .table) (a .sweep .same) (a .at .rank) (a .tablebase .now)
     (length (a .tablebase .now))
     (a .at .position) w (a .sweep .level))

@@ -20,8 +20,8 @@ use Rattle.solver.proofs.solve_all.Tie as tie
 
 abbrev Inv-loop : tie.InvT-loop
 Inv-loop tablebase₀ binomials masks images bounds maps k deep₀ m₀ tablebase deep m =
-    (3 ≤ m) × (length tablebase ≡ length tablebase₀) × PairsFilled (removable (bounds .edition)) (bounds .rings) (bounds .k) (bounds .limit) m 3
-    tablebase deep
+    (3 ≤ m) × (length tablebase ≡ length tablebase₀) × PairsFilled (removable (bounds .edition))
+    (bounds .rings) (bounds .k) (bounds .limit) m 3 tablebase deep
 
 abbrev μ-loop : tie.MeasureT-loop
 μ-loop tablebase₀ binomials masks images bounds maps k deep₀ m₀ tablebase deep m = k + 1 - m
@@ -136,8 +136,7 @@ returns c =
     deep-void (removable (s .args .bounds .edition)) (s .args .bounds .rings) (s .args .bounds .k) (s .args .bounds .limit) (s .args .tablebase .now)
     after (s .pre .1 .room) (same-length c)
     (subst (PairsFilled (removable (s .args .bounds .edition)) (s .args .bounds .rings) (s .args .bounds .k) (s .args .bounds .limit) (x .loop .m) 3
-    (x .loop .tablebase))
-    (c .before .before .before .before .if1 .taken)
+    (x .loop .tablebase)) (c .before .before .before .before .if1 .taken)
     (x .loop .inv .2))
     (λ j l. voided c .1 j l)
 
@@ -150,8 +149,7 @@ returns-2 c =
     let s = entered x in
     let a = s .args .bounds in
     true-whole (removable (a .edition)) (a .rings) (a .k) (a .limit) (s .args .tablebase .now) (x .loop .tablebase) (s .pre .1 .room)
-    (x .loop .inv .1)
-    (done-all (removable (a .edition)) (a .rings) (a .k) (a .limit) (x .loop .tablebase) (x .loop .m)
+    (x .loop .inv .1) (done-all (removable (a .edition)) (a .rings) (a .k) (a .limit) (x .loop .tablebase) (x .loop .m)
     (rows-done (x .loop .m) (a .k) (x .loop .deep) (c .if1 .left) (c .before .loop-test .left))
     (subst (PairsFilled (removable (a .edition)) (a .rings) (a .k) (a .limit) (x .loop .m) 3 (x .loop .tablebase)) (c .if1 .left) (x .loop .inv .2)))
 

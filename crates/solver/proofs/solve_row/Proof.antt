@@ -131,8 +131,8 @@ returns-2 c =
     let s = entered x in
     let e : x .loop .o ≡ s .args .m + 1 = omega (arith, c .loop-test .left, x .loop .inv .1) in (
       same-length-2 c,
-      done-row (removable (s .args .bounds .edition)) (s .args .bounds .rings) (s .args .bounds .k) (s .args .bounds .limit) (x .loop .tablebase)
-          (s .args .m)
+      done-row (removable (s .args .bounds .edition)) (s .args .bounds .rings) (s .args .bounds .k)
+          (s .args .bounds .limit) (x .loop .tablebase) (s .args .m)
           (subst (λ (o : ℕ). TrueOn (removable (s .args .bounds .edition)) (s .args .bounds .rings) (s .args .bounds .k) (s .args .bounds .limit)
           (DoneBefore (s .args .m) o)
           (x .loop .tablebase)) e (x .loop .inv .3)),

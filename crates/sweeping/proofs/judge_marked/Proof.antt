@@ -52,8 +52,8 @@ loop-holds c =
           (a .tablebase .now) 0 _
           (c .find-mark .result) (a .tablebase .now)
           (c .find-mark .ensures)
-          (judged-none (removable (a .sweep .edition)) (a .maps .rings) (a .sweep .table) (a .sweep .same) (a .sweep .level) (a .maps .count)
-          (a .tablebase .now)),
+          (judged-none (removable (a .sweep .edition)) (a .maps .rings) (a .sweep .table) (a .sweep .same)
+          (a .sweep .level) (a .maps .count) (a .tablebase .now)),
       c .find-mark .ensures .here,
       λ h. absurd (omega (arith, c .before .before .nowhere .ensures)),
     )
@@ -112,8 +112,7 @@ stepped c =
     let a = entered x .args in
     let e = c .judge-place .ensures
     ∙ ap (judgedClass (removable (a .sweep .edition)) (a .maps .rings) (a .sweep .table) (a .sweep .same) (a .sweep .level) (a .maps .count)
-    (x .loop .tablebase))
-    (c .before .before .seek .ensures .0) in (
+    (x .loop .tablebase)) (c .before .before .seek .ensures .0) in (
       ap length e ∙ judged-length (removable (a .sweep .edition)) (a .maps .rings) (a .sweep .table) (a .sweep .same) (a .sweep .level)
           (a .maps .count) (x .loop .r) (x .loop .tablebase),
       e ∙ judged-step (removable (a .sweep .edition)) (a .maps .rings) (a .sweep .table) (a .sweep .same) (a .sweep .level) (a .maps .count)

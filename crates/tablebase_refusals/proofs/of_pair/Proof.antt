@@ -37,8 +37,8 @@ returns-2 : tie.Need-returns-2
 returns-2 c =
     let x = c .before .before in
     let a = x .before .before .args in
-    tables-refused (a .rings) (a .edition) (a .mover) (a .opponent) (a .k) (a .limit) (a .length) (ruled x) (c .before .of-stones .result) (c .if2 .taken)
-    (c .before .of-stones .ensures)
+    tables-refused (a .rings) (a .edition) (a .mover) (a .opponent) (a .k) (a .limit) (a .length) (ruled x) (c .before .of-stones .result)
+    (c .if2 .taken) (c .before .of-stones .ensures)
 
 count-above-requires : tie.Need-count-above-requires
 count-above-requires c κs = search needs

@@ -13,7 +13,8 @@ use Rattle.tablebase_refusals.proofs.of_tablebase.Statement.{statement}
 use Rattle.tablebase_refusals.proofs.of_tablebase.Tie as tie
 
 -- past the first refusals, the board is accepted
-passed-board : (c : tie.Else1) → 0 ≡ refusal (ruledPicks (c .before .before .before .args .rings) (c .before .before .before .args .edition) (c .before .before .before .args .board .now))
+passed-board : (c : tie.Else1) → 0 ≡ refusal (ruledPicks (c .before .before .before .args .rings) (c .before .before .before .args .edition)
+    (c .before .before .before .args .board .now))
 passed-board c = sym (c .if1 .left) ∙ c .before .of-ruled .ensures
 
 board : (c : tie.Else1) → Accepted (c .before .before .before .args .rings) (c .before .before .before .args .board .now)

@@ -42,8 +42,7 @@ none : (c : tie.Else1) → 0 ≡ refusal (tablesPicks (entered c .args .rings) (
 none c = sym (c .if1 .left) ∙ c .before .of-pair .ensures
 
 known : (c : tie.Else1) → AcceptedPair (entered c .args .rings) (entered c .args .edition) (entered c .args .mover) (entered c .args .opponent)
-    (entered c .args .k)
-    (entered c .args .limit) (length (entered c .args .tablebase .now))
+    (entered c .args .k) (entered c .args .limit) (length (entered c .args .tablebase .now))
 known c = accepted-pair _ _ _ _ _ _ _ (sym (none c))
 
 is-pair : (c : tie.Else1) → Pair (entered c .args .rings) (entered c .args .k) (entered c .args .mover) (entered c .args .opponent)

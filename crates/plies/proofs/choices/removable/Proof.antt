@@ -20,8 +20,8 @@ returns-2 : tie.Need-returns-2
 returns-2 c =
     let u = c .before .before in
     let s = u .before in
-    sym (removable-all (s .args .rings) (s .args .position) (s .pre .placed) (s .args .edition) (sym (u .unshielded .ensures) ∙ c .before .if1 .taken)
-    (c .if2 .left))
+    sym (removable-all (s .args .rings) (s .args .position) (s .pre .placed) (s .args .edition)
+    (sym (u .unshielded .ensures) ∙ c .before .if1 .taken) (c .if2 .left))
 
 returns-3 : tie.Need-returns-3
 returns-3 c =

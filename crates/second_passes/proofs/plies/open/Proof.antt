@@ -7,7 +7,8 @@ use Rattle.second_passes.proofs.plies.open.Statement.{statement}
 use Rattle.second_passes.proofs.plies.open.Tie as tie
 
 abbrev Inv-loop : tie.InvT-loop
-Inv-loop starts filled rings edition entries₀ counts₀ position₀ place₀ entries counts position place = (place ≤ length entries₀) × (length entries ≡ length entries₀)
+Inv-loop starts filled rings edition entries₀ counts₀ position₀ place₀ entries counts position place = (place ≤ length entries₀)
+    × (length entries ≡ length entries₀)
     × (length counts ≡ length counts₀)
 
 abbrev μ-loop : tie.MeasureT-loop
