@@ -89,7 +89,7 @@ def about_entry(rings, edition, board, k, tablebase):
     return about_edition(edition) | about_board(rings, board) | about_tablebase(rings, k, counts(board), tablebase)
 
 
-# "An entry means the outcome under the edition with which its shelf was filled", so it is read the same under either.
+# An entry means the outcome under the edition with which its tablebase was filled (A11), so it is read the same under either.
 def lookup(rings, edition, board, k, tablebase):
     conditions = about_entry(rings, edition, board, k, tablebase)
     refusal = first_refusal(conditions | {"void": lambda: entry_of(board, k, tablebase) == VOID})

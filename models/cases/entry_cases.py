@@ -96,7 +96,7 @@ def after_no_removal():
     yield best_move(1, 2, "01011222", 5, tablebase)
 
 
-# "An entry means the outcome under the edition with which its shelf was filled", under whichever it is looked up.
+# An entry means the outcome under the edition with which its tablebase was filled (A11), under whichever it is looked up.
 def filled_under_2():
     tablebase = calls.fill(1, 2, 5, 2000, throughout(0, 1302))[1]
     yield from (lookup(*case, tablebase) for case in EDITION_2)

@@ -4,7 +4,7 @@ use mathlib.Core.Bool.{Bool, true, false, cond}
 use mathlib.Core.List.{List, [], _∷_}
 use Prim.Native.Nat.{ℕ}
 use native.Mathlib.Omega.{arith}
-use lib.ListN.{length}
+use lib.ListN.{length, getD}
 use Rattle.rules.specs.Ply.{Rule, removable}
 use Rattle.rules.proofs.Listed.{TakesOpponent, removable-takes}
 use Rattle.outcomes.specs.Whole.{TrueEntry}
@@ -14,12 +14,22 @@ use Rattle.outcomes.specs.Places.{entryAt, successorEntry, successorVoid}
 use Rattle.outcomes.proofs.WholeGame.{not-void, board-true, successors-told}
 use Rattle.refusals.specs.Refusals.{refusal}
 use Rattle.refusals.specs.Conditions.{moverBlocked, tablebasePicks, lookupPicks, bestMovePicks}
-use Rattle.refusals.proofs.TablebaseConditions.{AcceptedEntry, accepted-entry, lookup-decides, best-move-decides}
+use Rattle.refusals.proofs.TablebaseConditions.{AcceptedEntry, accepted-entry, lookup-decides, lookup-before, best-move-decides}
 use Rattle.answers.specs.Answers.{accepted, refused}
-use Rattle.answers.proofs.Answering.{answer-refused, answer-accepted}
+use Rattle.answers.proofs.Answering.{answer-refused, answer-accepted, accepted-values}
 use Rattle.entries.specs.BestMove.{bestListed, bestSuccessor}
 use Rattle.entry_calls.specs.LookupCall.{lookupCall}
 use Rattle.entry_calls.specs.BestMoveCall.{bestMoveCall}
+
+-- an accepted lookup: its conditions held, and its answer is the entry
+pub entry-given : (rings edition : ℕ) (b : List ℕ) (k : ℕ) (tablebase : List ℕ) (n : ℕ) → lookupCall rings edition b k tablebase ≡ accepted (n ∷ [])
+    → AcceptedEntry rings b k (length tablebase) × (entryAt rings k tablebase b ≡ n)
+unfolding lookupCall
+entry-given rings edition b k tablebase n e =
+    let (none, same) = accepted-values (n ∷ []) (entryAt rings k tablebase b ∷ []) (refusal (lookupPicks rings edition b k tablebase)) (sym e) in (
+      accepted-entry rings edition b k (length tablebase) (lookup-before rings edition b k tablebase none),
+      sym (ap (λ (l : List ℕ). getD l 0 0) same),
+    )
 
 -- in a tablebase of true entries under a rule, a board that passes has its true entry, whatever edition the call names
 module _ (rule : Rule) (takes : TakesOpponent rule) (rings edition k : ℕ) (tablebase : List ℕ)

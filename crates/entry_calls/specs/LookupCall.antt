@@ -1,5 +1,5 @@
--- The call `lookup` (document 01: "rings and a board, for .. its entry in a shelf"). Document 02, A11: "An entry means the outcome under the edition
--- with which its shelf was filled": the edition is tested, and what is read does not depend on it. Assumes nothing.
+-- The call `lookup` (document 01: "rings and a board, for .. its entry in a shelf"). An entry means the outcome under the edition with which
+-- its tablebase was filled (document 02, A11): the edition is tested, and what is read does not depend on it. Assumes nothing.
 use mathlib.Core.List.{List, [], _∷_}
 use Prim.Native.Nat.{ℕ}
 use Rattle.outcomes.specs.Places.{entryAt}

@@ -9,10 +9,11 @@ use Prim.Native.Nat.{ℕ, _*_, _≤_, _<_}
 use native.Mathlib.Omega.{arith}
 use lib.Dec.{eqb}
 use lib.ListN.{length}
+use borrow.Author.Tests.{eqb-true, eqb-false}
 use Rattle.lists.specs.Lists.{orElse}
 use Rattle.lists.proofs.Members.{orElse-first, orElse-second}
 use Rattle.rules.specs.Ply.{Rule, holds, holding, inMill, slide, unshielded, ifAllShielded, removable, noRemoval, removals, moveNumber, fromOf, toOf, removedOf, moves, remove, exchange, afterPly, successors}
-use Rattle.rules.proofs.Listed.{holding-is, is-holding, Move, Listed, move-of, of-move, removals-with, removals-without, removal-cases, TakesOpponent, successor-of, of-successor, unshielded-is, is-unshielded, removable-are}
+use Rattle.rules.proofs.Listed.{holding-is, is-holding, Move, Listed, move-of, of-move, removals-with, removals-without, removal-cases, TakesOpponent, successor-of, of-successor, unshielded-is, is-unshielded, removable-are, shielded-none, shielded-any}
 use Rattle.rules.proofs.Leads.{Parts, parts-of, after-parts, after-length, slide-length}
 use Rattle.symmetry.specs.Symmetries.{symmetries, source, image}
 use Rattle.symmetry.proofs.Group.{inverse, inverse-low, inverse-inverse, source-none, source-low, source-undo}
@@ -199,13 +200,17 @@ unshielded-commutes rings few g h b points r m =
 
 -- what may be removed if all stand in mills
 shielded-commutes : (edition : ℕ) → Commutes (ifAllShielded edition)
-unfolding ifAllShielded
-shielded-commutes edition rings few g h b points r m = go (eqb edition 2) m
+shielded-commutes edition rings few g h b points r m = go (eqb edition 2) refl
   where
-    go : (t : Bool) → List·Memᴰ r (elim t as (λ c. List ℕ) [ true ↦ [] | false ↦ holding rings (image rings g b) 2 ])
-        → List·Memᴰ (source rings g r) (elim t as (λ c. List ℕ) [ true ↦ [] | false ↦ holding rings b 2 ])
-    go true i = absurd (List·Memᴰ·not-nil i)
-    go false i = holding-image rings few g h b points 2 r i
+    there : (l : List ℕ) → ifAllShielded edition rings (image rings g b) ≡ l → List·Memᴰ r l
+    there l e = subst (λ (k : List ℕ). List·Memᴰ r k) e m
+
+    go : (t : Bool) → eqb edition 2 ≡ t → List·Memᴰ (source rings g r) (ifAllShielded edition rings b)
+    go true e = absurd (List·Memᴰ·not-nil (there [] (shielded-none edition rings (image rings g b) (eqb-true edition 2 e))))
+    go false e =
+        let n = eqb-false edition 2 e in
+        subst (λ (k : List ℕ). List·Memᴰ (source rings g r) k) (sym (shielded-any edition rings b n))
+        (holding-image rings few g h b points 2 r (there (holding rings (image rings g b) 2) (shielded-any edition rings (image rings g b) n)))
 
 -- the rule of each edition commutes with the symmetries
 pub removable-commutes : (edition : ℕ) → Commutes (removable edition)

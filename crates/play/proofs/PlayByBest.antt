@@ -7,7 +7,7 @@ use mathlib.Core.Bool.{true, false}
 use mathlib.Core.List.{List, [], _∷_, List·Memᴰ}
 use Prim.Native.Nat.{ℕ, _+_, _*_, _≤_, _<_, _%_}
 use native.Mathlib.Omega.{arith}
-use lib.ListN.{length, getD}
+use lib.ListN.{length}
 use Rattle.lists.specs.Lists.{isEmpty}
 use Rattle.lists.proofs.Tests.{untrue, is-member, empty-none}
 use Rattle.rules.specs.Ply.{Rule, removable, moves, afterPly, successors}
@@ -32,17 +32,16 @@ use Rattle.outcomes.proofs.WholeGame.{whole-cases, whole-closed, live-three, bo
 use Rattle.bestmove.proofs.Choice.{best-listed}
 use Rattle.bestmove.proofs.QuickestWin.{best-plays}
 use Rattle.refusals.specs.Refusals.{refusal}
-use Rattle.refusals.specs.Conditions.{editionWrong, moverBlocked, tablebasePicks, lookupPicks}
+use Rattle.refusals.specs.Conditions.{editionWrong, moverBlocked, tablebasePicks}
 use Rattle.answers.specs.Answers.{accepted}
 use Rattle.move_calls.specs.MakeMoveCall.{makeMoveCall, makeMoveTarget}
 use Rattle.entry_calls.specs.LookupCall.{lookupCall}
 use Rattle.entry_calls.specs.BestMoveCall.{bestMoveCall}
-use Rattle.entry_calls.proofs.Answered.{entry-answered, best-answered}
+use Rattle.entry_calls.proofs.Answered.{entry-given, entry-answered, best-answered}
 use Rattle.entries.specs.BestMove.{entryAfter, bestListed, bestSuccessor}
 use Rattle.fill_calls.specs.Fills.{FillCall}
-use Rattle.refusals.proofs.TablebaseConditions.{AcceptedTablebase, AcceptedEntry, both-right, accepted-entry, entry-passes, lookup-before}
+use Rattle.refusals.proofs.TablebaseConditions.{AcceptedTablebase, AcceptedEntry, both-right, entry-passes}
 use Rattle.play.proofs.Play.{listed-made}
-use Rattle.answers.proofs.Answering.{accepted-values}
 use Rattle.exact_fills.proofs.ExactEntries.{fill-accepted}
 
 -- best play in a tablebase that holds the true entries under a rule, from a board that is won within n plies
@@ -136,17 +135,12 @@ module _ (rings edition k limit : ℕ) (before after : List ℕ) (filled : FillC
   true-entries = fill-accepted rings edition k limit before after filled .1 .entries
 
   module _ (named : ℕ) (b : List ℕ) (n : ℕ) (entry : lookupCall rings named b k after ≡ accepted (n ∷ [])) where
-    looked : (refusal (lookupPicks rings named b k after) ≡ 0) × (n ∷ [] ≡ entryAt rings k after b ∷ [])
-    unfolding lookupCall
-    looked = accepted-values (n ∷ []) (entryAt rings k after b ∷ []) (refusal (lookupPicks rings named b k after)) (sym entry)
-
     board-entered : AcceptedEntry rings b k (length after)
-    board-entered = accepted-entry rings named b k (length after) (lookup-before rings named b k after (looked .0))
+    board-entered = entry-given rings named b k after n entry .0
 
     pub lookup-true : TrueEntry (removable edition) rings b n
     lookup-true =
-        let e : entryAt rings k after b ≡ n = sym (ap (λ (l : List ℕ). getD l 0 0) (looked .1)) in
-        subst (λ (x : ℕ). TrueEntry (removable edition) rings b x) e
+        subst (λ (x : ℕ). TrueEntry (removable edition) rings b x) (entry-given rings named b k after n entry .1)
         (board-true (removable edition) (removable-takes edition) rings k after true-entries b (board-entered .in-tables))
 
     -- from a board whose entry n is looked up and is won

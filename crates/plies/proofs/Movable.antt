@@ -9,7 +9,8 @@ use Rattle.sets.specs.Sets.{elements, setFrom}
 use Rattle.sets.proofs.Elements.{elements-none, elements-lowest}
 use Rattle.board.specs.declared.Position.{Position}
 use Rattle.board.specs.Board.{boardOf}
-use Rattle.rules.specs.Ply.{holding, destinations, blocked}
+use Rattle.rules.specs.Ply.{destinations, blocked}
+use Rattle.rules.proofs.Blocked.{blocked-is}
 use Rattle.plies.specs.Inner.Positions.{Placed}
 use Rattle.plies.proofs.StoneMoves.{elements-destinations, destinations-fit, stones-given}
 
@@ -34,14 +35,10 @@ module _ (rings : ℕ) (position : Position) (placed : Placed rings position) wh
     pub stone-free : (tos ≡ 0 → ⊥) → movable rings position from ≡ true
     stone-free n = sym movable-is ∙ ap (λ (l : List ℕ). not (isEmpty l)) (elements-lowest tos tos-fits n)
 
-  blocked-is : blocked rings board ≡ all (λ from. isEmpty (destinations rings board from)) (holding rings board 1)
-  unfolding blocked
-  blocked-is = refl
-
   -- a mover is blocked where no stone can
   pub none-movable : (t : Bool) → t ≡ any (λ from. movable rings position from) (elements 32 (position .mover)) → not t ≡ blocked rings board
   none-movable t e =
       ap not e
-      ∙ sym (blocked-is ∙ ap (all (λ from. isEmpty (destinations rings board from))) (stones-given rings position placed)
+      ∙ sym (blocked-is rings board ∙ ap (all (λ from. isEmpty (destinations rings board from))) (stones-given rings position placed)
       ∙ all-none (λ from. isEmpty (destinations rings board from)) (λ from. movable rings position from)
       (elements 32 (position .mover)) (λ from m. refl))

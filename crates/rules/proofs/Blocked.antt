@@ -3,7 +3,7 @@ use mathlib.Core.Path.{_≡_, refl, ap, _∙_}
 use mathlib.Core.Bool.{Bool, true, false}
 use mathlib.Core.List.{List, [], _∷_, List·Memᴰ, List·Memᴰ·head}
 use Prim.Native.Nat.{ℕ}
-use Rattle.lists.specs.Lists.{isEmpty, orElse}
+use Rattle.lists.specs.Lists.{all, isEmpty, orElse}
 use Rattle.lists.proofs.Tests.{same-test, all-member, member-all, empty-none, none-empty, empty-map}
 use Rattle.rules.specs.Ply.{Rule, holds, holding, inMill, destinations, slide, noRemoval, removals, moves, blocked, afterPly, successors}
 use Rattle.rules.proofs.Listed.{holding-is, is-holding, destination-vacant, destination-of, of-destination, move-of, of-move, successors-are}
@@ -58,3 +58,8 @@ module _ (rule : Rule) (rings : ℕ) (b : List ℕ) where
 
   pub blocked-successors : isEmpty (successors rule rings b) ≡ blocked rings b
   blocked-successors = ap isEmpty (successors-are rule rings b) ∙ empty-map (λ n. afterPly b n) (moves rule rings b) ∙ blocked-moves
+
+-- what a search over the stones goes by
+pub blocked-is : (rings : ℕ) (b : List ℕ) → blocked rings b ≡ all (λ from. isEmpty (destinations rings b from)) (holding rings b 1)
+unfolding blocked
+blocked-is rings b = refl

@@ -16,7 +16,7 @@ use Rattle.board.specs.Board.{Values, count, digit}
 use Rattle.rules.specs.Ply.{Rule, holds, holding, inMill, slide, noRemoval, removals, remove, exchange, successors}
 use Rattle.rules.specs.Predecessors.{moved, origins, unslide, restored, predecessors}
 use Rattle.rules.proofs.Listed.{Move, move-of, holding-is, is-holding, removals-without, successor-of, TakesOpponent}
-use Rattle.rules.proofs.Leads.{Removed, BeforeExchange, removed-of, removed-before, listed-parts, after-parts, remove-none, remove-one, exchange-at, exchange-counts, exchange-values, slide-counts, slide-length, slide-values, count-set, values-set}
+use Rattle.rules.proofs.Leads.{other-point, apart, slide-to, slide-from, slide-other, Removed, BeforeExchange, removed-of, removed-before, listed-parts, after-parts, remove-none, remove-one, exchange-at, exchange-counts, exchange-values, slide-counts, slide-length, slide-values, count-set, values-set}
 use Rattle.rules.proofs.Mills.{in-mill-same}
 
 -- neighbours of each other
@@ -42,32 +42,13 @@ exchange-own (suc (suc v)) = sym (ne-eqb (suc (suc v)) 1 (λ e. omega arith))
 exchange-of : (b : List ℕ) (p x : ℕ) → getD b p 0 ≡ x → getD (map (λ v. exchange v) b) p 0 ≡ exchange x
 exchange-of b p x e = exchange-at b p ∙ ap (λ y. exchange y) e
 
--- a point of another value is another point
-other-point : (b : List ℕ) (p q : ℕ) {x y : ℕ} → getD b p 0 ≡ x → getD b q 0 ≡ y → (x ≡ y → ⊥) → p ≡ q → ⊥
-other-point b p q ex ey n e = n (sym ex ∙ ap (λ (i : ℕ). getD b i 0) e ∙ ey)
-
--- a board after a slide, point by point, and after the slide back
+-- a slide taken back
 module _ (b : List ℕ) (from to : ℕ) (own : getD b from 0 ≡ 1) (vacant : getD b to 0 ≡ 0) where
-  apart : to ≡ from → ⊥
-  apart e = other-point b to from vacant own (λ z. omega arith) e
-
-  slide-to : to < length b → getD (slide b from to) to 0 ≡ 1
-  unfolding slide
-  slide-to h = getD-set-same (set b from 0) to 1 0 (omega (arith, length-set b from 0))
-
-  slide-from : from < length b → getD (slide b from to) from 0 ≡ 0
-  unfolding slide
-  slide-from h = getD-set-other (set b from 0) to from 1 0 (λ e. apart (sym e)) ∙ getD-set-same b from 0 0 h
-
-  slide-other : (p : ℕ) → (p ≡ from → ⊥) → (p ≡ to → ⊥) → getD (slide b from to) p 0 ≡ getD b p 0
-  unfolding slide
-  slide-other p f t = getD-set-other (set b from 0) to p 1 0 t ∙ getD-set-other b from p 0 0 f
-
   slide-back : slide (slide b from to) to from ≡ b
   unfolding slide
   slide-back =
       ap (λ (l : List ℕ). set l from 1)
-      (set-set (set b from 0) to 1 0 ∙ ap (set (set b from 0) to) (sym (getD-set-other b from to 0 0 apart ∙ vacant)) ∙ set-getD (set b from 0) to 0)
+      (set-set (set b from 0) to 1 0 ∙ ap (set (set b from 0) to) (sym (getD-set-other b from to 0 0 (apart b from to own vacant) ∙ vacant)) ∙ set-getD (set b from 0) to 0)
       ∙ set-set b from 0 1 ∙ ap (set b from) (sym own) ∙ set-getD b from 0
 
 -- a store elsewhere may come before a slide or after it

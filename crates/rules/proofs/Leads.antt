@@ -98,45 +98,48 @@ after-length b n = length-map (remove slid (removedOf n)) (λ v. exchange v) ∙
         ap length (remove-one slid (removedOf n) (eqb-false (removedOf n) noRemoval e)) ∙ length-set slid (removedOf n) 0
         ∙ slide-length b (fromOf n) (toOf n)
 
--- and both counts
+-- a point of another value is another point
+pub other-point : (b : List ℕ) (p q : ℕ) {x y : ℕ} → getD b p 0 ≡ x → getD b q 0 ≡ y → (x ≡ y → ⊥) → p ≡ q → ⊥
+other-point b p q ex ey n e = n (sym ex ∙ ap (λ (i : ℕ). getD b i 0) e ∙ ey)
+
+-- a board after a slide, point by point
+module _ (b : List ℕ) (from to : ℕ) (own : getD b from 0 ≡ 1) (vacant : getD b to 0 ≡ 0) where
+  pub apart : to ≡ from → ⊥
+  apart e = other-point b to from vacant own (λ z. omega arith) e
+
+  pub slide-to : to < length b → getD (slide b from to) to 0 ≡ 1
+  unfolding slide
+  slide-to h = getD-set-same (set b from 0) to 1 0 (omega (arith, length-set b from 0))
+
+  pub slide-from : from < length b → getD (slide b from to) from 0 ≡ 0
+  unfolding slide
+  slide-from h = getD-set-other (set b from 0) to from 1 0 (λ e. apart (sym e)) ∙ getD-set-same b from 0 0 h
+
+  pub slide-other : (p : ℕ) → (p ≡ from → ⊥) → (p ≡ to → ⊥) → getD (slide b from to) p 0 ≡ getD b p 0
+  unfolding slide
+  slide-other p f t = getD-set-other (set b from 0) to p 1 0 t ∙ getD-set-other b from p 0 0 f
+
+  -- an opposing stone before the slide is one after it
+  pub opposing-slid : (r : ℕ) → getD b r 0 ≡ 2 → getD (slide b from to) r 0 ≡ 2
+  opposing-slid r e = slide-other r (other-point b r from e own (λ z. omega arith)) (other-point b r to e vacant (λ z. omega arith)) ∙ e
+
+  pub slid-opposing : from < length b → to < length b → (r : ℕ) → getD (slide b from to) r 0 ≡ 2 → getD b r 0 ≡ 2
+  slid-opposing hf ht r e =
+      sym (slide-other r (other-point (slide b from to) r from e (slide-from hf) (λ z. omega arith))
+      (other-point (slide b from to) r to e (slide-to ht) (λ z. omega arith))) ∙ e
+
+-- a slide keeps both counts
 module _ (b : List ℕ) (from to : ℕ) (hf : from < length b) (ht : to < length b) (own : getD b from 0 ≡ 1) (vacant : getD b to 0 ≡ 0) where
   pub slide-counts : (count 1 (slide b from to) ≡ count 1 b) × (count 2 (slide b from to) ≡ count 2 b)
   unfolding slide
   slide-counts =
-      let ne : (to ≡ from → ⊥) = λ e. let z = sym vacant ∙ ap (λ (i : ℕ). getD b i 0) e ∙ own in omega arith in
-      let f : getD (set b from 0) to 0 ≡ 0 = getD-set-other b from to 0 0 ne ∙ vacant in
+      let f : getD (set b from 0) to 0 ≡ 0 = getD-set-other b from to 0 0 (apart b from to own vacant) ∙ vacant in
       let h : to < length (set b from 0) = omega (arith, length-set b from 0) in
       let a₁ = rw own at (count-set 1 b from 0 hf) in
       let a₂ = rw own at (count-set 2 b from 0 hf) in
       let c₁ = rw f at (count-set 1 (set b from 0) to 1 h) in
       let c₂ = rw f at (count-set 2 (set b from 0) to 1 h) in
       (omega arith, omega arith)
-
-  -- another point is as it was
-  slide-other : (r : ℕ) → (r ≡ from → ⊥) → (r ≡ to → ⊥) → getD (slide b from to) r 0 ≡ getD b r 0
-  unfolding slide
-  slide-other r f t = getD-set-other (set b from 0) to r 1 0 t ∙ getD-set-other b from r 0 0 f
-
-  slide-to : getD (slide b from to) to 0 ≡ 1
-  unfolding slide
-  slide-to = getD-set-same (set b from 0) to 1 0 (omega (arith, length-set b from 0))
-
-  slide-from : getD (slide b from to) from 0 ≡ 0
-  unfolding slide
-  slide-from =
-      getD-set-other (set b from 0) to from 1 0 (λ e. let z = sym own ∙ ap (λ (i : ℕ). getD b i 0) e ∙ vacant in omega arith)
-      ∙ getD-set-same b from 0 0 hf
-
-  -- so an opposing stone before the slide is one after it
-  pub opposing-slid : (r : ℕ) → getD b r 0 ≡ 2 → getD (slide b from to) r 0 ≡ 2
-  opposing-slid r e =
-      slide-other r (λ z. let q = sym e ∙ ap (λ (i : ℕ). getD b i 0) z ∙ own in omega arith)
-      (λ z. let q = sym e ∙ ap (λ (i : ℕ). getD b i 0) z ∙ vacant in omega arith) ∙ e
-
-  pub slid-opposing : (r : ℕ) → getD (slide b from to) r 0 ≡ 2 → getD b r 0 ≡ 2
-  slid-opposing r e =
-      sym (slide-other r (λ z. let q = sym e ∙ ap (λ (i : ℕ). getD (slide b from to) i 0) z ∙ slide-from in omega arith)
-      (λ z. let q = sym e ∙ ap (λ (i : ℕ). getD (slide b from to) i 0) z ∙ slide-to in omega arith)) ∙ e
 
 -- one opposing stone is removed, or none
 abbrev pub Removed : List ℕ → ℕ → Type 0
@@ -230,7 +233,7 @@ module _ (rule : Rule) (takes : TakesOpponent rule) (rings : ℕ) (small : rings
           → (l .removed ≡ noRemoval) ⊎ ((l .removed < 8 * rings) × (getD b (l .removed) 0 ≡ 2)) =
           λ r. ⊎-elim (λ e. inl e) (λ h. inr (
             omega (arith, h .0, slide-length b (l .from) (l .to)),
-            slid-opposing b (l .from) (l .to) lf lt (m .own) (m .vacant) (l .removed) (h .2),
+            slid-opposing b (l .from) (l .to) (m .own) (m .vacant) lf lt (l .removed) (h .2),
           )) r in
           record {
             from-low = rw (q .from-is) (m .from-low);
@@ -256,7 +259,7 @@ module _ (rings : ℕ) (small : rings ≤ 3) (b : List ℕ) (v : Values b) (poin
       go (inr h) = inr (
         omega (arith, h .0, slide-length b (fromOf n) (toOf n)),
         omega (arith, h .0),
-        opposing-slid b (fromOf n) (toOf n) makeable-from makeable-to (m .own) (m .vacant) (removedOf n) (h .1),
+        opposing-slid b (fromOf n) (toOf n) (m .own) (m .vacant) (removedOf n) (h .1),
       )
 
   pub makeable-leads : Leads b (afterPly b n) (removedOf n)

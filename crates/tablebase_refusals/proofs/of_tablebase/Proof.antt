@@ -12,14 +12,6 @@ use Rattle.refusals.proofs.Conditions.{Accepted, ruled-board, few-points}
 use Rattle.tablebase_refusals.proofs.of_tablebase.Statement.{statement}
 use Rattle.tablebase_refusals.proofs.of_tablebase.Tie as tie
 
--- past the first refusals, the board is accepted
-passed-board : (c : tie.Else1) → 0 ≡ refusal (ruledPicks (c .before .before .before .args .rings) (c .before .before .before .args .edition)
-    (c .before .before .before .args .board .now))
-passed-board c = sym (c .if1 .left) ∙ c .before .of-ruled .ensures
-
-board : (c : tie.Else1) → Accepted (c .before .before .before .args .rings) (c .before .before .before .args .board .now)
-board c = let a = c .before .before .before .args in ruled-board (a .rings) (a .edition) (a .board .now) (sym (passed-board c))
-
 of-ruled-requires : tie.Need-of-ruled-requires
 of-ruled-requires c κs = search needs
 
@@ -30,6 +22,14 @@ returns c =
     first-kept (pickedRows refusalTable (ruledPicks (a .rings) (a .edition) b))
     (pickedRows refusalTable (largestPicks (a .rings) (a .k) (countAbove (a .k) (count 1 b) (count 2 b)) (a .length)))
     (c .before .of-ruled .result) (c .if1 .taken) (c .before .of-ruled .ensures)
+
+-- past the first refusals, the board is accepted
+passed-board : (c : tie.Else1) → 0 ≡ refusal (ruledPicks (c .before .before .before .args .rings) (c .before .before .before .args .edition)
+    (c .before .before .before .args .board .now))
+passed-board c = sym (c .if1 .left) ∙ c .before .of-ruled .ensures
+
+board : (c : tie.Else1) → Accepted (c .before .before .before .args .rings) (c .before .before .before .args .board .now)
+board c = let a = c .before .before .before .args in ruled-board (a .rings) (a .edition) (a .board .now) (sym (passed-board c))
 
 stones-above-requires : tie.Need-stones-above-requires
 stones-above-requires c κs = few-points _ _ (board c)
