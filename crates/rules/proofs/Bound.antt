@@ -15,10 +15,8 @@ use Rattle.lists.proofs.Keep.{keep-keep}
 use Rattle.lists.proofs.Lengths.{keep-le, orElse-le, each-le}
 use Rattle.lists.proofs.Table.{every-at}
 use Rattle.lists.proofs.Tests.{keep-same}
-use Rattle.sets.proofs.Elements.{length-elements}
 use Rattle.geometry.specs.Geometry.{points, adjoin, neighbours}
-use Rattle.board.specs.Board.{Values, count, setOf}
-use Rattle.board.proofs.Sides.{members-count}
+use Rattle.board.specs.Board.{Values, count}
 use Rattle.board.proofs.Counts.{count-all}
 use Rattle.geometry.proofs.Geometry.{neighbours-are, neighbours-within, neighbours-few}
 use Rattle.rules.specs.Ply.{holds, holding, inMill, destinations, slide, unshielded, ifAllShielded, removable, noRemoval, removals, moveNumber, slideMoves, stoneMoves, moves}
@@ -26,13 +24,9 @@ use Rattle.rules.specs.MoveList.{listedMoves}
 use Rattle.rules.proofs.CapturesFirst.{listed-length}
 use Rattle.rules.proofs.Listed.{holding-is, destination-vacant, removable-are, shielded-cases}
 use Rattle.rules.proofs.Leads.{slide-length, slide-counts}
-use Rattle.rules.proofs.OnSets.{holding-set}
+use Rattle.rules.proofs.OnSets.{length-holding}
 
 module _ (edition rings : ℕ) (small : rings ≤ 3) where
-  length-holding : (b : List ℕ) → length b ≡ 8 * rings → (v : ℕ) → length (holding rings b v) ≡ count v b
-  length-holding b whole v =
-      ap length (holding-set rings small b whole v) ∙ length-elements 32 (setOf v b) ∙ members-count v b (omega (arith, whole))
-
   unshielded-le : (b : List ℕ) → length (unshielded rings b) ≤ length (holding rings b 2)
   unfolding unshielded
   unshielded-le b = keep-le (λ p. not (inMill rings (holds b 2) p)) (holding rings b 2)
@@ -47,7 +41,7 @@ module _ (edition rings : ℕ) (small : rings ≤ 3) where
 
   removable-le : (b : List ℕ) → length b ≡ 8 * rings → length (removable edition rings b) ≤ count 2 b
   removable-le b whole =
-      let h = length-holding b whole 2 in
+      let h = length-holding rings small b whole 2 in
       subst (λ (l : List ℕ). length l ≤ count 2 b) (sym (removable-are edition rings b))
       (orElse-le (count 2 b) (unshielded rings b) (ifAllShielded edition rings b)
       (omega (arith, h, unshielded-le b)) (omega (arith, h, shielded-le b)))
@@ -80,7 +74,7 @@ module _ (edition rings : ℕ) (small : rings ≤ 3) where
     -- three stones: as many points as are vacant
     jump-few : (from : ℕ) → length (destinations rings b from) ≤ count 0 b
     unfolding destinations
-    jump-few from = omega (arith, keep-le (λ to. eqb (count 1 b) 3 || adjoin from to) (holding rings b 0), length-holding b whole 0)
+    jump-few from = omega (arith, keep-le (λ to. eqb (count 1 b) 3 || adjoin from to) (holding rings b 0), length-holding rings small b whole 0)
 
     -- else four at the most
     near-few : (count 1 b ≡ 3 → ⊥) → (from : ℕ) → from < 24 → length (destinations rings b from) ≤ 4
@@ -111,7 +105,7 @@ module _ (edition rings : ℕ) (small : rings ≤ 3) where
         → length (moves (removable edition) rings b) ≤ count 1 b * (k * count 2 b)
     unfolding moves
     all-few k few =
-        subst (λ (n : ℕ). length (moves (removable edition) rings b) ≤ n * (k * count 2 b)) (length-holding b whole 1)
+        subst (λ (n : ℕ). length (moves (removable edition) rings b) ≤ n * (k * count 2 b)) (length-holding rings small b whole 1)
         (each-le (λ from. stoneMoves (removable edition) rings b from (destinations rings b from)) (k * count 2 b) (holding rings b 1)
         (λ from i. stone-few k few from i))
 

@@ -9,3 +9,4 @@ pub mod Listed
 pub mod Mills
 pub mod OnSets
 pub mod Rises
+pub mod Unreachable

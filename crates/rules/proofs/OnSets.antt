@@ -17,11 +17,11 @@ use Rattle.lists.proofs.Members.{keep-member, member-keep}
 use Rattle.lists.proofs.Tests.{keep-same}
 use Rattle.sets.specs.Sets.{bit, has, with, without, elements, setFrom}
 use Rattle.sets.proofs.Laws.{bit-and, bit-cases, same-set, without-absent}
-use Rattle.sets.proofs.Elements.{elements-is, is-element, elements-more, from-elements, from-lt, bit-from, from-bit, from-first, from-second, from-one}
+use Rattle.sets.proofs.Elements.{length-elements, elements-is, is-element, elements-more, from-elements, from-lt, bit-from, from-bit, from-first, from-second, from-one}
 use Rattle.geometry.specs.Geometry.{points, adjoin, neighbours}
 use Rattle.board.specs.Board.{Values, count, digit, setOf}
 use Rattle.geometry.proofs.Geometry.{points-are, low-point, neighbours-are}
-use Rattle.board.proofs.Sides.{set-lt, bit-set, set-none, set-cons}
+use Rattle.board.proofs.Sides.{members-count, set-lt, bit-set, set-none, set-cons}
 use Rattle.board.proofs.Stores.{has-set, elements-set, set-with, set-without}
 use Rattle.rules.specs.Ply.{Rule, holds, holding, inMill, destinations, slide, unshielded, ifAllShielded, removable, noRemoval, removals, exchange}
 use Rattle.rules.proofs.Listed.{destination-vacant, removals-without, removals-with, removable-are}
@@ -39,6 +39,9 @@ module _ (rings : ℕ) (small : rings ≤ 3) (b : List ℕ) (whole : length b �
       ap (keep (holds b v)) (points-are rings) ∙
       sym (elements-more (8 * rings) 32 (setOf v b) (set-within v) (omega arith)
       ∙ subst (λ (n : ℕ). elements n (setOf v b) ≡ keep (holds b v) (range 0 n)) whole (elements-set v b))
+
+  pub length-holding : (v : ℕ) → length (holding rings b v) ≡ count v b
+  length-holding v = ap length (holding-set v) ∙ length-elements 32 (setOf v b) ∙ members-count v b (omega (arith, whole))
 
   pub from-holding : (v : ℕ) → setFrom (holding rings b v) ≡ setOf v b
   from-holding v =
