@@ -105,7 +105,7 @@ neighbours-few p h = leb-true _ _ (every-at 24 fewAt refl p h)
 pub neighbour-low : (p j : ℕ) → j < length (neighbours 3 p) → getD (neighbours 3 p) j 0 < 24
 unfolding neighbours points
 neighbour-low p j h =
-    let m = keep-member (λ q. adjoin p q) (points 3) (getD-member (neighbours 3 p) j h) in
+    let m = keep-member (λ q. adjoin p q) (points 3) (getD-member (neighbours 3 p) j 0 h) in
     let r : getD (neighbours 3 p) j 0 < 0 + 24 = range-member 24 0 (m .0) .1 in
     subst (λ (n : ℕ). getD (neighbours 3 p) j 0 < n) (zero-add 24) r
 

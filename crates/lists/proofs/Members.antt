@@ -105,7 +105,7 @@ module _ {A : Type 0} where
   orElse-second [] r none m = m
   orElse-second (y ∷ ys) r none m = absurd (none y (List·Memᴰ·head refl))
 
-pub getD-member : (l : List ℕ) (i : ℕ) → i < length l → List·Memᴰ (getD l i 0) l
-getD-member [] i h = absurd (not-suc-le-zero h)
-getD-member (x ∷ l) zero h = List·Memᴰ·head refl
-getD-member (x ∷ l) (suc i) h = List·Memᴰ·tail (getD-member l i (le-of-suc-le-suc h))
+pub getD-member : {A : Type 0} (l : List A) (i : ℕ) (d : A) → i < length l → List·Memᴰ (getD l i d) l
+getD-member [] i d h = absurd (not-suc-le-zero h)
+getD-member (x ∷ l) zero d h = List·Memᴰ·head refl
+getD-member (x ∷ l) (suc i) d h = List·Memᴰ·tail (getD-member l i d (le-of-suc-le-suc h))

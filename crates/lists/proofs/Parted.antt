@@ -77,14 +77,14 @@ module _ (f : ℕ → Bool) (l : List ℕ) where
           let at : getD (parted f l) i 0 ≡ getD (failing f l) j 0 =
           ap (λ (k : ℕ). getD (parted f l) k 0) e ∙ getD-append-add (keep f l) (failing f l) j 0 in
           fails j e low at
-          (ap f at ∙ false-of-not _ (keep-member (λ y. not (f y)) l (getD-member (failing f l) j low) .1))
+          (ap f at ∙ false-of-not _ (keep-member (λ y. not (f y)) l (getD-member (failing f l) j 0 low) .1))
 
       go : (b : Bool) → ltb i (length (keep f l)) ≡ b → Stands i (getD (parted f l) i 0)
       go false b = second (i - length (keep f l)) (omega (arith, ltb-false i (length (keep f l)) b))
       go true b =
           let k = ltb-true i (length (keep f l)) b in
           let at = List·getD-append (keep f l) (failing f l) 0 i k in
-          passes k at (ap f at ∙ keep-member f l (getD-member (keep f l) i k) .1)
+          passes k at (ap f at ∙ keep-member f l (getD-member (keep f l) i 0 k) .1)
 
   module _ (i j : ℕ) (before : i < j) (last : j < length (parted f l)) where
     -- a member that passes has only such before it

@@ -56,7 +56,7 @@ module _ (rings k : ℕ) (tablebase : List ℕ) where
         let at : getD (take n (drop a tablebase)) r 0 ≡ getD tablebase (a + r) 0 = getD-take n (drop a tablebase) r 0 h ∙ getD-drop a tablebase r 0 in
         let d = eqb-false (getD (take n (drop a tablebase)) r 0) voidEntry
         (any-none (λ v. isVoid v) (take n (drop a tablebase)) e (getD (take n (drop a tablebase)) r 0)
-        (getD-member (take n (drop a tablebase)) r (omega (arith, l)))) in
+        (getD-member (take n (drop a tablebase)) r 0 (omega (arith, l)))) in
         go (ltb (getD tablebase (a + r) 0) voidEntry) refl (λ q. d (at ∙ q))
       where
         go : (b : Bool) → ltb (getD tablebase (start (8 * rings) k x y + r) 0) voidEntry ≡ b → (getD tablebase (start (8 * rings) k x y + r) 0 ≡ voidEntry → ⊥)

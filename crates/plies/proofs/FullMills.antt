@@ -31,7 +31,7 @@ full-none s h =
     let z : bitAnd s (setFrom []) ≡ 0 = ap (bitAnd s) from-none ∙ and-zero-r s in
     ap (λ (x : ℕ). eqb x 3) (ap (λ (x : ℕ). members x 32) z ∙ members-all 0 32 (omega arith))
 
-full-three : (s : ℕ) → s < 2 ^ 32 → (l : List ℕ) → proper l ≡ true → full s l ≡ all (λ p. has s p) l
+pub full-three : (s : ℕ) → s < 2 ^ 32 → (l : List ℕ) → proper l ≡ true → full s l ≡ all (λ p. has s p) l
 full-three s h [] e = absurd (false≢true e)
 full-three s h (a ∷ []) e = absurd (false≢true e)
 full-three s h (a ∷ b ∷ []) e = absurd (false≢true e)

@@ -16,12 +16,13 @@ use Rattle.rules.specs.Ply.{removable}
 use Rattle.outcomes.specs.Places.{entryAt, isVoid, successorVoid, lowerVoid}
 use Rattle.outcomes.proofs.Boards.{InTables}
 use Rattle.refusals.specs.Refusals.{Pick, Picked, refusalTable, pickedRows, refusal}
-use Rattle.refusals.specs.Conditions.{editionWrong, countAbove, largestWrong, tablebaseWrong, largestLimit, limitWrong, moverBlocked}
-use Rattle.refusals.specs.Conditions.{editionPicks, ruledPicks, stonesPicks, largestPicks, tablebasePicks, lookupPicks, bestMovePicks}
+use Rattle.refusals.specs.Conditions.{editionWrong, positionUnreachable, countAbove, largestWrong, tablebaseWrong, largestLimit, limitWrong, moverBlocked}
+use Rattle.refusals.specs.Conditions.{editionPicks, reachablePicks, stonesPicks, largestPicks, tablebasePicks, lookupPicks, bestMovePicks}
 use Rattle.refusals.specs.Conditions.{limitPicks, fillPicks, tablesPicks, pairPicks}
 use Rattle.refusals.proofs.FirstRefusal.{passes, passed, first-kept, first-after, both-passed, first-cons, one-more}
 use Rattle.refusals.proofs.EditionConditions.{RingsFirst, edition-refused, edition-decides}
 use Rattle.refusals.proofs.Conditions.{RightCounts, Accepted, rings-right, counts-right, ruled-board, ruled-passes}
+use Rattle.refusals.proofs.ReachableConditions.{reachable-passed, reachable-passes}
 
 -- what a right K is, and that no count is above it
 pub record Largest (k : ℕ) (above : Bool) : Type 0 where
@@ -73,9 +74,9 @@ pub record AcceptedEntry (rings : ℕ) (b : List ℕ) (k n : ℕ) : Type 0 where
   pub in-tables : InTables rings k b
 
 pub both-right : (rings edition : ℕ) (b : List ℕ) (k n : ℕ) → refusal (tablebasePicks rings edition b k n) ≡ 0
-    → (refusal (ruledPicks rings edition b) ≡ 0) × (refusal (largestPicks rings k (countAbove k (count 1 b) (count 2 b)) n) ≡ 0)
+    → (refusal (reachablePicks rings edition b) ≡ 0) × (refusal (largestPicks rings k (countAbove k (count 1 b) (count 2 b)) n) ≡ 0)
 both-right rings edition b k n e =
-    both-passed (pickedRows refusalTable (ruledPicks rings edition b)) (pickedRows refusalTable
+    both-passed (pickedRows refusalTable (reachablePicks rings edition b)) (pickedRows refusalTable
     (largestPicks rings k (countAbove k (count 1 b) (count 2 b)) n)) refl e
 
 pub accepted-entry : (rings edition : ℕ) (b : List ℕ) (k n : ℕ) → refusal (tablebasePicks rings edition b k n) ≡ 0 → AcceptedEntry rings b k n
@@ -83,7 +84,7 @@ accepted-entry rings edition b k n e =
     let above = countAbove k (count 1 b) (count 2 b) in
     let p = both-right rings edition b k n e in
     let q = passed (pickedRows refusalTable (largestPicks rings k above n)) refl (p .1) in
-    let w = ruled-board rings edition b (p .0) in
+    let w = ruled-board rings edition b (reachable-passed rings edition b (p .0) .0) in
     let l = largest-right k above (q .0) in
     let t = table-right (8 * rings) k (count 1 b) (count 2 b) (w .counted) (l .none-above) in
     record {
@@ -92,10 +93,15 @@ accepted-entry rings edition b k n e =
       in-tables = record { points = w .points; values = w .values; is-table = t };
     }
 
--- and every board of the tables of an accepted tablebase is one, under a right edition
-pub entry-passes : (rings edition : ℕ) (b : List ℕ) (k n : ℕ) → editionWrong edition ≡ false → AcceptedTablebase rings k n → InTables rings k b
-    → refusal (tablebasePicks rings edition b k n) ≡ 0
-entry-passes rings edition b k n d a s =
+-- a game may reach it
+pub entry-reachable : (rings edition : ℕ) (b : List ℕ) (k n : ℕ) → refusal (tablebasePicks rings edition b k n) ≡ 0
+    → positionUnreachable rings edition b ≡ false
+entry-reachable rings edition b k n e = reachable-passed rings edition b (both-right rings edition b k n e .0) .1
+
+-- and every board of the tables of an accepted tablebase that a game may reach is one, under a right edition
+pub entry-passes : (rings edition : ℕ) (b : List ℕ) (k n : ℕ) → editionWrong edition ≡ false → positionUnreachable rings edition b ≡ false
+    → AcceptedTablebase rings k n → InTables rings k b → refusal (tablebasePicks rings edition b k n) ≡ 0
+entry-passes rings edition b k n d u a s =
     let m = count 1 b in
     let o = count 2 b in
     let t = s .is-table in
@@ -115,8 +121,8 @@ entry-passes rings edition b k n d a s =
     let above : countAbove k m o ≡ false = rw (le-ltb k m (t .mover-high), le-ltb k o (t .opponent-high)) in
     let right : largestWrong k (countAbove k m o) ≡ false = rw (le-ltb k 3 (a .largest-low), le-ltb 9 k (a .largest-high), above) in
     let exact : tablebaseWrong rings k n ≡ false = ap not (eq-eqb n (tablebaseLength (8 * rings) k) (a .exact)) in
-    first-after (pickedRows refusalTable (ruledPicks rings edition b)) (pickedRows refusalTable (largestPicks rings k (countAbove k m o) n)) refl
-    (ruled-passes rings edition b d board)
+    first-after (pickedRows refusalTable (reachablePicks rings edition b)) (pickedRows refusalTable (largestPicks rings k (countAbove k m o) n)) refl
+    (sym (reachable-passes rings edition b (sym (ruled-passes rings edition b d board)) u))
     ∙ sym (passes (pickedRows refusalTable (largestPicks rings k (countAbove k m o) n)) (right, (exact, tt)))
 
 -- an accepted tablebase to fill

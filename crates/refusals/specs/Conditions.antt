@@ -1,5 +1,5 @@
 -- The conditions of the table, and what calls pick of it for their arguments. Assumes nothing.
-use mathlib.Core.Bool.{Bool, false, not, _||_}
+use mathlib.Core.Bool.{Bool, false, not, _&&_, _||_}
 use mathlib.Core.List.{List, [], _∷_, _++_}
 use Prim.Native.Nat.{ℕ, _+_, _*_}
 use lib.Dec.{eqb, leb, ltb}
@@ -9,9 +9,10 @@ use Rattle.board.specs.Board.{count}
 use Rattle.sizes.specs.Size.{size}
 use Rattle.layout.specs.Layout.{tablebaseLength}
 use Rattle.rules.specs.Ply.{removable, moves, blocked}
+use Rattle.rules.specs.Unreachable.{unreachable}
 use Rattle.frames.specs.Frame.{frameWrong, frameLength, ringsIn, boardIn}
 use Rattle.outcomes.specs.Places.{entryAt, isVoid, successorVoid, lowerVoid}
-use Rattle.refusals.specs.Refusals.{Pick, pick, wrongFrame, wrongRings, wrongEdition, wrongLength, wrongValue, wrongCounts}
+use Rattle.refusals.specs.Refusals.{Pick, pick, wrongFrame, wrongRings, wrongEdition, wrongLength, wrongValue, wrongCounts, unreachablePosition}
 use Rattle.refusals.specs.Refusals.{wrongLargest, wrongTablebase, wrongLimit, wrongTarget, shortTarget, wrongRank, wrongMove, blockedMover, voidRead}
 
 -- 1: not 1, 2 or 3
@@ -38,6 +39,10 @@ valueWrong (x ∷ b) = ltb 2 x || valueWrong b
 -- 4: a count outside 3 to 9, or a sum above the points
 abbrev pub countsWrong : ℕ → ℕ → ℕ → Bool
 countsWrong points m o = ltb m 3 || ltb 9 m || ltb o 3 || ltb 9 o || ltb points (m + o)
+
+-- 15: unreachable position, "given under edition 1 only"
+abbrev pub positionUnreachable : ℕ → ℕ → List ℕ → Bool
+positionUnreachable rings edition b = eqb edition 1 && unreachable rings b
 
 -- a count above K
 abbrev pub countAbove : ℕ → ℕ → ℕ → Bool
@@ -96,6 +101,10 @@ editionPicks rings edition = underEdition edition (pick wrongRings (ringsWrong r
 abbrev pub ruledPicks : ℕ → ℕ → List ℕ → List Pick
 ruledPicks rings edition b = underEdition edition (boardPicks rings b)
 
+-- and for whether a game reaches its position besides
+abbrev pub reachablePicks : ℕ → ℕ → List ℕ → List Pick
+reachablePicks rings edition b = pick unreachablePosition (positionUnreachable rings edition b) ∷ ruledPicks rings edition b
+
 -- what a call picks for rings and counts
 abbrev pub stonesPicks : ℕ → ℕ → ℕ → List Pick
 stonesPicks rings m o = pick wrongRings (ringsWrong rings) ∷ pick wrongCounts (countsWrong (8 * rings) m o) ∷ []
@@ -128,9 +137,9 @@ movePicks rings edition b move room = pick wrongMove (moveWrong rings edition b 
 abbrev pub largestPicks : ℕ → ℕ → Bool → ℕ → List Pick
 largestPicks rings k above n = pick wrongLargest (largestWrong k above) ∷ pick wrongTablebase (tablebaseWrong rings k n) ∷ []
 
--- what a call picks for rings, an edition, a board, K and a tablebase of so many entries
+-- what a call picks for rings, an edition, a board that a game reaches, K and a tablebase of so many entries
 abbrev pub tablebasePicks : ℕ → ℕ → List ℕ → ℕ → ℕ → List Pick
-tablebasePicks rings edition b k n = largestPicks rings k (countAbove k (count 1 b) (count 2 b)) n ++ ruledPicks rings edition b
+tablebasePicks rings edition b k n = largestPicks rings k (countAbove k (count 1 b) (count 2 b)) n ++ reachablePicks rings edition b
 
 -- and for the entry looked up besides; 12: void there
 abbrev pub lookupPicks : ℕ → ℕ → List ℕ → ℕ → List ℕ → List Pick

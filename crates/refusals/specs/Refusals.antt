@@ -1,5 +1,6 @@
 -- Where a call is turned back (document 01, the table of that name): "Places are taken from top to bottom, conditions left to right; a call
--- meets those that concern its arguments." Document 02, A11: "20, edition not 1 or 2, directly after 1." Assumes nothing.
+-- meets those that concern its arguments." Document 02, A1: "15, unreachable position, after 4 and before 11"; A11: "20, edition not 1 or 2, directly
+-- after 1." Assumes nothing.
 use mathlib.Core.Bool.{Bool, true, false}
 use mathlib.Core.List.{List, [], _∷_, _++_}
 use Prim.Native.Nat.{ℕ}
@@ -8,7 +9,7 @@ use lib.Dec.{eqb}
 -- the conditions, by what is wrong
 pub data Condition : Type 0 where
   wrongFrame wrongRings wrongLength wrongValue wrongCounts wrongLargest wrongTablebase wrongLimit : Condition
-  wrongTarget shortTarget wrongRank wrongMove blockedMover voidRead tooDeep wrongEdition : Condition
+  wrongTarget shortTarget wrongRank wrongMove blockedMover voidRead tooDeep wrongEdition unreachablePosition : Condition
 
 -- a row: a condition, and the number of its refusal
 pub record Row : Type 0 where
@@ -24,7 +25,7 @@ refusalTable =
     refusalRow wrongFrame 14
     ∷ refusalRow wrongRings 1 ∷ refusalRow wrongEdition 20
     ∷ refusalRow wrongLength 2 ∷ refusalRow wrongValue 3
-    ∷ refusalRow wrongCounts 4
+    ∷ refusalRow wrongCounts 4 ∷ refusalRow unreachablePosition 15
     ∷ refusalRow wrongLargest 11 ∷ refusalRow wrongTablebase 6
     ∷ refusalRow wrongLimit 10
     ∷ refusalRow wrongTarget 6 ∷ refusalRow shortTarget 7
@@ -51,6 +52,7 @@ index blockedMover = 12
 index voidRead = 13
 index tooDeep = 14
 index wrongEdition = 15
+index unreachablePosition = 16
 
 -- what a call picks of the table: a condition that concerns its arguments, and whether it holds
 pub record Pick : Type 0 where

@@ -1,4 +1,4 @@
-// Where a call is turned back: the numbers of document 01's table, and 20 of document 02. Its conditions and their order are definitions; the tests
+// Where a call is turned back: the numbers of document 01's table, and 15 and 20 of document 02. Its conditions and their order are definitions; the tests
 // stand above, by subject.
 
 // The refusal numbers.
@@ -31,5 +31,7 @@ pub const VOID_READ: u8 = 12;
 pub const TOO_DEEP: u8 = 13;
 
 pub const FRAME: u8 = 14;
+
+pub const UNREACHABLE: u8 = 15;
 
 pub const EDITION: u8 = 20;

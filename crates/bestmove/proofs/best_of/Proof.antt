@@ -24,7 +24,7 @@ abbrev μ-loop : tie.MeasureT-loop
 -- each place holds a move that can be made
 makeable : (c : tie.Start Inv-loop μ-loop) (i : ℕ) → i < length (c .args .moves .now)
     → Makeable (c .args .rings) (boardOf (8 * c .args .rings) (c .args .position)) (getD (c .args .moves .now) i 0)
-makeable c i h = c .pre .1 .makeable (getD (c .args .moves .now) i 0) (getD-member (c .args .moves .now) i h)
+makeable c i h = c .pre .1 .makeable (getD (c .args .moves .now) i 0) (getD-member (c .args .moves .now) i 0 h)
 
 shared-slice-read-with-entry : tie.Need-shared-slice-read-with-entry Inv-loop μ-loop
 shared-slice-read-with-entry c = c .before .before .before .pre .1 .some

@@ -1,0 +1,2 @@
+pub mod MillsLeft
+pub mod OnPositions
