@@ -1,12 +1,12 @@
 // The first refusal that a tablebase meets, with a board or to be filled.
 ghost use mathlib.Core.Path.{_≡_};
 ghost use Prim.Native.Nat.{_≤_};
-ghost use lib.ListN.{length};
-ghost use Rattle.board.specs.Board.{count};
+ghost use Rattle.sets.specs.Sets.{members};
 ghost use Rattle.sizes.specs.Inner.Binomial.{BinomialTable};
 ghost use Rattle.refusals.specs.Refusals.{refusal};
 ghost use Rattle.refusals.specs.Conditions.{countAbove, largestWrong, tablebaseWrong, limitWrong};
 ghost use Rattle.refusals.specs.Conditions.{largestPicks, tablebasePicks, limitPicks, fillPicks, tablesPicks};
+use board::Position;
 
 // The highest limit, in plies.
 const LARGEST_LIMIT: u32 = 65533;
@@ -18,12 +18,10 @@ fn count_above(k: u32, m: u32, o: u32) -> bool
     (k < m) | (k < o)
 }
 
-// A count of a board's stones above K.
-fn stones_above(k: u8, board: &[u8]) -> bool
-    requires { ⌜ length (now board) ≤ 24 ⌝ }
-    ensures { λ r. ⌜ r ≡ countAbove k (count 1 (now (board .entry))) (count 2 (now (board .entry))) ⌝ }
+// A count of a position's stones above K.
+fn stones_above(k: u8, position: Position) -> bool
+    ensures { λ r. ⌜ r ≡ countAbove k (members (position .mover) 32) (members (position .opponent) 32) ⌝ }
 {
-    let position = board::position_of(board);
     count_above(
         k as u32,
         sets::count(position.mover),
@@ -69,7 +67,7 @@ fn of_largest(binomials: &[u32; 625], rings: u8, k: u8, above: bool, length: usi
     0
 }
 
-// The first refusal that rings, an edition, a board, K and a tablebase of so many entries meet, or 0.
+// The first refusal that rings, an edition, a board that a game reaches, K and a tablebase of so many entries meet, or 0.
 pub fn of_tablebase(
     binomials: &[u32; 625],
     rings: u8,
@@ -85,7 +83,11 @@ pub fn of_tablebase(
     if refusal != 0 {
         return refusal;
     }
-    of_largest(binomials, rings, k, stones_above(k, board), length)
+    let position = board::position_of(board);
+    if reachability::unreachable(rings, edition, position) {
+        return refusals::UNREACHABLE;
+    }
+    of_largest(binomials, rings, k, stones_above(k, position), length)
 }
 
 // The first refusal that K, a limit and a tablebase of so many entries to fill meet, or 0.
