@@ -13,9 +13,9 @@ use Rattle.outcomes.specs.Order.{TrueEntries}
 use Rattle.outcomes.specs.Places.{entryAt, successorEntry, successorVoid}
 use Rattle.outcomes.proofs.WholeGame.{not-void, board-true, successors-told}
 use Rattle.refusals.specs.Refusals.{refusal}
-use Rattle.refusals.specs.Conditions.{moverBlocked, tablebasePicks, lookupPicks, bestMovePicks}
-use Rattle.refusals.proofs.TablebaseConditions.{AcceptedEntry, accepted-entry, lookup-decides, lookup-before, best-move-decides}
-use Rattle.answers.specs.Answers.{accepted, refused}
+use Rattle.refusals.specs.Conditions.{editionWrong, positionUnreachable, moverBlocked, tablebasePicks, lookupPicks, bestMovePicks}
+use Rattle.refusals.proofs.TablebaseConditions.{AcceptedEntry, accepted-entry, entry-passes, lookup-decides, lookup-before, best-move-decides}
+use Rattle.answers.specs.Answers.{accepted, refused, answer}
 use Rattle.answers.proofs.Answering.{answer-refused, answer-accepted, accepted-values}
 use Rattle.entries.specs.BestMove.{bestListed, bestSuccessor}
 use Rattle.entry_calls.specs.LookupCall.{lookupCall}
@@ -23,13 +23,24 @@ use Rattle.entry_calls.specs.BestMoveCall.{bestMoveCall}
 
 -- an accepted lookup: its conditions held, and its answer is the entry
 pub entry-given : (rings edition : ℕ) (b : List ℕ) (k : ℕ) (tablebase : List ℕ) (n : ℕ) → lookupCall rings edition b k tablebase ≡ accepted (n ∷ [])
-    → AcceptedEntry rings b k (length tablebase) × (entryAt rings k tablebase b ≡ n)
+    → (refusal (tablebasePicks rings edition b k (length tablebase)) ≡ 0) × (entryAt rings k tablebase b ≡ n)
 unfolding lookupCall
 entry-given rings edition b k tablebase n e =
-    let (none, same) = accepted-values (n ∷ []) (entryAt rings k tablebase b ∷ []) (refusal (lookupPicks rings edition b k tablebase)) (sym e) in (
-      accepted-entry rings edition b k (length tablebase) (lookup-before rings edition b k tablebase none),
-      sym (ap (λ (l : List ℕ). getD l 0 0) same),
-    )
+    let (none, same) = accepted-values (n ∷ []) (entryAt rings k tablebase b ∷ []) (refusal (lookupPicks rings edition b k tablebase)) (sym e) in
+    (lookup-before rings edition b k tablebase none, sym (ap (λ (l : List ℕ). getD l 0 0) same))
+
+-- its answer is the same under another edition that does not refuse the board's position
+pub entry-named : (rings edition named : ℕ) (b : List ℕ) (k : ℕ) (tablebase : List ℕ) (n : ℕ)
+    → lookupCall rings edition b k tablebase ≡ accepted (n ∷ []) → editionWrong named ≡ false → positionUnreachable rings named b ≡ false
+    → lookupCall rings named b k tablebase ≡ accepted (n ∷ [])
+unfolding lookupCall
+entry-named rings edition named b k tablebase n e right passes =
+    let given = entry-given rings edition b k tablebase n e .0 in
+    let known = accepted-entry rings edition b k (length tablebase) given in
+    let too = entry-passes rings named b k (length tablebase) right passes (known .tablebase) (known .in-tables) in
+    ap (λ (r : ℕ). answer r (entryAt rings k tablebase b ∷ []))
+    (lookup-decides rings named b k tablebase (sym too) ∙ sym (lookup-decides rings edition b k tablebase (sym given)))
+    ∙ e
 
 -- in a tablebase of true entries under a rule, a board that passes has its true entry, whatever edition the call names
 module _ (rule : Rule) (takes : TakesOpponent rule) (rings edition k : ℕ) (tablebase : List ℕ)

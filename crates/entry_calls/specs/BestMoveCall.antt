@@ -9,7 +9,7 @@ use Rattle.refusals.specs.Refusals.{refusal}
 use Rattle.refusals.specs.Conditions.{bestMovePicks}
 use Rattle.answers.specs.Answers.{Answer, answer}
 
--- 1, 20, 2, 3, 4, 11, 6, 9, 12; else the best move, "with the entry of the successor it leads to"
+-- 1, 20, 2, 3, 4, 15, 11, 6, 9, 12; else the best move, "with the entry of the successor it leads to"
 unfoldable pub bestMoveCall : ℕ → ℕ → List ℕ → ℕ → List ℕ → Answer
 bestMoveCall rings edition b k tablebase =
     let rule = removable edition in

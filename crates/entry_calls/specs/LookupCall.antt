@@ -7,6 +7,6 @@ use Rattle.refusals.specs.Refusals.{refusal}
 use Rattle.refusals.specs.Conditions.{lookupPicks}
 use Rattle.answers.specs.Answers.{Answer, answer}
 
--- 1, 20, 2, 3, 4, 11, 6, 12; else the entry
+-- 1, 20, 2, 3, 4, 15, 11, 6, 12; else the entry
 unfoldable pub lookupCall : ℕ → ℕ → List ℕ → ℕ → List ℕ → Answer
 lookupCall rings edition b k tablebase = answer (refusal (lookupPicks rings edition b k tablebase)) (entryAt rings k tablebase b ∷ [])

@@ -8,7 +8,7 @@ use answers::Looked;
 use entries::Choice;
 
 // The entry of a board in a tablebase of largest count k: 65,535 draw, else plies to the end, even lost, odd won. It means the outcome under the
-// rules edition with which the tablebase was filled, whatever edition is named. Refusals: 1, 20, 2, 3, 4, 11, 6, 12.
+// rules edition with which the tablebase was filled, whatever edition is named. Refusals: 1, 20, 2, 3, 4, 15, 11, 6, 12.
 pub fn lookup(rings: u8, edition: u8, board: &[u8], k: u8, tablebase: &[u16]) -> Looked
     ensures { λ r. ⌜ looked r ≡ lookupCall rings edition (now (board .entry)) k (now (tablebase .entry)) ⌝ }
 {
@@ -33,7 +33,7 @@ pub fn lookup(rings: u8, edition: u8, board: &[u8], k: u8, tablebase: &[u16]) ->
 }
 
 // The best move of a board under rules edition 1 or 2, by the entries of its successors: the first listed among quickest win, else a draw, else
-// longest loss. Refusals: 1, 20, 2, 3, 4, 11, 6, 9, 12.
+// longest loss. Refusals: 1, 20, 2, 3, 4, 15, 11, 6, 9, 12.
 pub fn best_move(rings: u8, edition: u8, board: &[u8], k: u8, tablebase: &[u16]) -> Chosen
     ensures { λ r. ⌜ chosen r ≡ bestMoveCall rings edition (now (board .entry)) k (now (tablebase .entry)) ⌝ }
 {
