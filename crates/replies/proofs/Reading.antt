@@ -1,29 +1,47 @@
--- The answer to a line by what reading it answers: turned back, or the board that the two sets stand for. Assumes nothing.
-use mathlib.Core.Path.{_≡_, ap, ap₂, _∙_}
+-- The answer to a line by what reading it answers: turned back; a position that no game reaches; or the board that the two sets stand for. Assumes
+-- nothing.
+use mathlib.Core.Path.{_≡_, refl, sym, ap, ap₂, subst, _∙_}
+use mathlib.Core.Bool.{Bool, true, false, cond}
 use mathlib.Core.List.{List, [], _∷_}
-use Prim.Native.Nat.{ℕ, _*_, _≤_}
+use Prim.Native.Nat.{ℕ, zero, suc, _*_, _≤_}
 use native.Mathlib.Omega.{arith}
 use lib.ListN.{take}
 use Rattle.board.specs.declared.Position.{Position}
 use Rattle.board.specs.Board.{positionOf, boardOf}
 use Rattle.board.proofs.Sides.{take-board, position-sides}
 use Rattle.frames.specs.Frame.{ringsIn, boardIn}
-use Rattle.refusals.specs.Refusals.{refusal}
-use Rattle.refusals.specs.Conditions.{readPicks}
-use Rattle.answers.specs.Answers.{accepted, refused}
+use Rattle.plies.specs.Inner.Positions.{Placed}
+use Rattle.refusals.specs.Refusals.{Picked, refusalTable, pickedRows, refusal}
+use Rattle.refusals.specs.Conditions.{positionUnreachable, readPicks}
+use Rattle.refusals.proofs.FirstRefusal.{first-kept, one-more}
 use Rattle.refusals.proofs.Conditions.{Accepted, accepted-board}
 use Rattle.refusals.proofs.FrameConditions.{board-accepted}
+use Rattle.answers.specs.Answers.{accepted, refused}
+use Rattle.answers.proofs.Answering.{refused-number}
 use Rattle.frame_calls.specs.ReadFrameCall.{framePosition, readFrameCall}
-use Rattle.positions.proofs.Positions.{position-back}
 use Rattle.frame_calls.proofs.Answered.{frame-given}
+use Rattle.positions.proofs.Positions.{ShowsBoard, board-shown}
 use Rattle.text.specs.Text.{refusedLine}
-use Rattle.replies.specs.Replies.{boardLine, frameLine, answerOf}
+use Rattle.fields.specs.Fields.{deskEdition}
+use Rattle.replies.specs.Replies.{boardLine, linePicks, frameLine, answerOf}
 
 module _ (tablebase line : List ℕ) where
+  abbrev reading : List Picked
+  reading = pickedRows refusalTable (readPicks line)
+
   -- turned back
-  pub line-refused : (n : ℕ) → refused n ≡ readFrameCall line → refusedLine n ≡ answerOf tablebase line
+  refused-line : (n : ℕ) → (n ≡ 0 → ⊥) → n ≡ refusal (linePicks line) → refusedLine n ≡ answerOf tablebase line
   unfolding answerOf
-  line-refused n e = ap (frameLine tablebase line) e
+  refused-line zero z e = absurd (z refl)
+  refused-line (suc n) z e = ap (frameLine tablebase line) e
+
+  -- by reading
+  pub line-refused : (n : ℕ) → refused n ≡ readFrameCall line → refusedLine n ≡ answerOf tablebase line
+  unfolding readFrameCall
+  line-refused n e =
+      let (same, some) = refused-number n (refusal (readPicks line)) (framePosition line) e in
+      refused-line n some
+      (first-kept reading (record { holds = positionUnreachable (ringsIn line) deskEdition (boardIn line); number = 15 } ∷ []) n some same)
 
   -- a position: the rings are few, and the sets stand for the frame's board
   module _ (rings m o : ℕ) (e : accepted (rings ∷ m ∷ o ∷ []) ≡ readFrameCall line) where
@@ -39,15 +57,34 @@ module _ (tablebase line : List ℕ) where
     pub few-rings : rings ≤ 3
     few-rings = omega (arith, same-rings, is-board .rings-high)
 
-    same-position : record { mover = m; opponent = o } ≡ positionOf (boardIn line)
+    abbrev sides : Position
+    sides = record { mover = m; opponent = o }
+
+    same-position : sides ≡ positionOf (boardIn line)
     same-position = let q = given .1 in cc (position-sides (boardIn line))
 
-    frame-board : take (8 * rings) (boardOf 24 (record { mover = m; opponent = o })) ≡ boardIn line
-    frame-board =
-        take-board (8 * rings) 24 (record { mover = m; opponent = o }) (omega (arith, few-rings))
-        ∙ ap₂ (λ (r : ℕ) (p : Position). boardOf (8 * r) p) same-rings same-position ∙ position-back (ringsIn line) (boardIn line) is-board
+    shown : ShowsBoard (ringsIn line) (boardIn line) sides
+    shown = board-shown (ringsIn line) (boardIn line) is-board sides same-position
 
-    pub line-board : (b : List ℕ) → b ≡ take (8 * rings) (boardOf 24 (record { mover = m; opponent = o }))
+    pub position-placed : Placed rings sides
+    position-placed = subst (λ (r : ℕ). Placed r sides) (sym same-rings) (shown .placed)
+
+    -- a game may reach it, or not: what the test says of the sets decides
+    decided : (t : Bool) → t ≡ positionUnreachable rings deskEdition (boardOf (8 * rings) sides) → refusal (linePicks line) ≡ cond t 15 0
+    decided t q =
+        one-more reading (positionUnreachable (ringsIn line) deskEdition (boardIn line)) 15 refl (sym (given .0))
+        ∙ ap (λ (u : Bool). cond u 15 0)
+        (sym (q ∙ ap₂ (λ (r : ℕ) (b : List ℕ). positionUnreachable r deskEdition b) same-rings
+        (ap (λ (r : ℕ). boardOf (8 * r) sides) same-rings ∙ shown .back)))
+
+    pub line-unreachable : true ≡ positionUnreachable rings deskEdition (boardOf (8 * rings) sides) → refusedLine 15 ≡ answerOf tablebase line
+    line-unreachable q = refused-line 15 (λ z. absurd (omega arith)) (sym (decided true q))
+
+    frame-board : take (8 * rings) (boardOf 24 sides) ≡ boardIn line
+    frame-board =
+        take-board (8 * rings) 24 sides (omega (arith, few-rings)) ∙ ap (λ (r : ℕ). boardOf (8 * r) sides) same-rings ∙ shown .back
+
+    pub line-board : false ≡ positionUnreachable rings deskEdition (boardOf (8 * rings) sides) → (b : List ℕ) → b ≡ take (8 * rings) (boardOf 24 sides)
         → boardLine tablebase rings b ≡ answerOf tablebase line
     unfolding answerOf
-    line-board b q = ap₂ (boardLine tablebase) same-rings (q ∙ frame-board) ∙ ap (frameLine tablebase line) e
+    line-board p b q = ap₂ (boardLine tablebase) same-rings (q ∙ frame-board) ∙ ap (frameLine tablebase line) (sym (decided false p))

@@ -48,8 +48,12 @@ pub fn answer_at(tablebase: &[u16], line: &[u8], out: &mut [u8], at: usize) -> u
     else {
         return text::put_refused(out, at, frame_calls::number_of(read) as u64);
     };
+    let position = Position { mover, opponent };
+    if reachability::unreachable(rings, fields::DESK_EDITION, position) {
+        return text::put_refused(out, at, refusals::UNREACHABLE as u64);
+    }
     let mut board = [0u8; 24];
-    board::write_board(Position { mover, opponent }, &mut board);
+    board::write_board(position, &mut board);
     let points = 8 * rings as usize;
     put_board(tablebase, rings, &board[..points], out, at)
 }

@@ -1,4 +1,5 @@
--- `replies::answer_at` meets its contract: the refusal of the frame, or the line of the board that its sets stand for. Assumes nothing.
+-- `replies::answer_at` meets its contract: the refusal of the frame, 15 for a position that no game reaches, or the line of the board
+-- that its sets stand for. Assumes nothing.
 use mathlib.Core.Path.{_≡_, sym, ap, _∙_}
 use Prim.Native.Nat.{_*_, _≤_}
 use native.Mathlib.Omega.{arith}
@@ -11,7 +12,7 @@ use Rattle.answers.specs.declared.Frame.{Frame}
 use Rattle.text.specs.Text.{refusedLine}
 use Rattle.replies.specs.Replies.{boardLine, answerOf}
 use Rattle.replies.proofs.Written.{same-written}
-use Rattle.replies.proofs.Reading.{line-refused, few-rings, line-board}
+use Rattle.replies.proofs.Reading.{line-refused, few-rings, position-placed, line-unreachable, line-board}
 use Rattle.replies.proofs.answer_at.Statement.{statement}
 use Rattle.replies.proofs.answer_at.Tie as tie
 
@@ -49,6 +50,36 @@ returns c =
     ap refusedLine k ∙ line-refused (a .tablebase .now) (a .line .now) _ (sym (ap frameRead q) ∙ f .read-frame .ensures) in
     same-written (a .at) _ (a .out .now) _ e (x .put-refused .ensures)
 
+unreachable-requires : tie.Need-unreachable-requires
+unreachable-requires c κs =
+    let g = c .before .read .given in
+    let f = c .before .before .before in
+    let a = f .before .before .before .before .args in
+    position-placed (a .tablebase .now) (a .line .now) (g .0 .0) (g .0 .1 .0) (g .0 .1 .1 .0) (sym (ap frameRead (g .1)) ∙ f .read-frame .ensures)
+
+cast-put-refused-2 : tie.Need-cast-put-refused-2
+cast-put-refused-2 c = search needs
+
+put-refused-requires-2 : tie.Need-put-refused-requires-2
+put-refused-requires-2 c κs = search needs
+
+same-length-2 : tie.Need-same-length-2
+same-length-2 c = search needs
+
+returns-2 : tie.Need-returns-2
+returns-2 c =
+    let x = c .before .before in
+    let i = x .before .before in
+    let u = i .before in
+    let y = u .before .before in
+    let g = y .read .given in
+    let f = y .before .before in
+    let a = f .before .before .before .before .args in
+    let e : refusedLine 15 ≡ answerOf (a .tablebase .now) (a .line .now) =
+    line-unreachable (a .tablebase .now) (a .line .now) (g .0 .0) (g .0 .1 .0) (g .0 .1 .1 .0) (sym (ap frameRead (g .1)) ∙ f .read-frame .ensures)
+    (sym (i .if1 .taken) ∙ u .unreachable .ensures) in
+    same-written (a .at) _ (a .out .now) _ e (x .put-refused2 .ensures)
+
 slice-aggregate-write-board : tie.Need-slice-aggregate-write-board
 slice-aggregate-write-board c = search needs
 
@@ -62,10 +93,10 @@ mul-points : tie.Need-mul-points
 mul-points c = search needs
 
 -- the board has 24 points, and the part in use is one of it
-in-use : (c : tie.After-board2) → (8 * c .before .before .before .before .read .given .0 .0 ≤ 24) × (length (c .before .write-board .last .1 .0) ≡ 24)
+in-use : (c : tie.After-board2) → (8 * c .before .before .before .before .before .before .read .given .0 .0 ≤ 24) × (length (c .before .write-board .last .1 .0) ≡ 24)
 in-use c =
     let b = c .before in
-    let y = b .before .before .before in
+    let y = b .before .before .before .before .before in
     let g = y .read .given in
     let f = y .before .before in
     let a = f .before .before .before .before .args in
@@ -83,23 +114,25 @@ slice-aggregate-put-board c = let u = in-use (c .before) in sym (length-take-le 
 put-board-requires : tie.Need-put-board-requires
 put-board-requires c κs =
     let u = in-use (c .before .before) in
-    let n = 8 * c .before .before .before .before .before .before .read .given .0 .0 in
+    let n = 8 * c .before .before .before .before .before .before .before .before .read .given .0 .0 in
     (omega (arith, length-take n (c .before .before .before .write-board .last .1 .0)), omega arith)
 
-same-length-2 : tie.Need-same-length-2
-same-length-2 c = search needs
+same-length-3 : tie.Need-same-length-3
+same-length-3 c = search needs
 
-returns-2 : tie.Need-returns-2
-returns-2 c =
+returns-3 : tie.Need-returns-3
+returns-3 c =
     let x = c .before .before in
     let b = x .before .before .before .before in
-    let y = b .before .before .before in
+    let i = b .before .before in
+    let u = i .before in
+    let y = u .before .before in
     let g = y .read .given in
     let f = y .before .before in
     let a = f .before .before .before .before .args in
     let e : boardLine (a .tablebase .now) (g .0 .0) (take (8 * g .0 .0) (b .write-board .last .1 .0)) ≡ answerOf (a .tablebase .now) (a .line .now) =
     line-board (a .tablebase .now) (a .line .now) (g .0 .0) (g .0 .1 .0) (g .0 .1 .1 .0) (sym (ap frameRead (g .1)) ∙ f .read-frame .ensures)
-    _ (ap (take (8 * g .0 .0)) (b .write-board .ensures)) in
+    (sym (i .if1 .left) ∙ u .unreachable .ensures) _ (ap (take (8 * g .0 .0)) (b .write-board .ensures)) in
     same-written (a .at) _ (a .out .now) _ e (x .put-board .ensures)
 
 pub answer-at-spec : {M : Type 1} → statement M
@@ -114,6 +147,11 @@ answer-at-spec =
     put-refused-requires
     same-length
     returns
+    unreachable-requires
+    cast-put-refused-2
+    put-refused-requires-2
+    same-length-2
+    returns-2
     slice-aggregate-write-board
     write-board-requires
     cast-points
@@ -121,5 +159,5 @@ answer-at-spec =
     array-share-prefix-board
     slice-aggregate-put-board
     put-board-requires
-    same-length-2
-    returns-2)
+    same-length-3
+    returns-3)
