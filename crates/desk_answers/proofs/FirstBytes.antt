@@ -8,20 +8,19 @@ use lib.Dec.{ltb}
 use lib.ListN.{length, take}
 use lib.Seq.{take-all}
 use borrow.Author.Tests.{ltb-true, ltb-false}
-use Rattle.frame_calls.specs.ReadFrameCall.{readFrameCall}
 use Rattle.frame_calls.proofs.Answered.{frame-turned}
-use Rattle.replies.specs.Replies.{frameLine, answerOf}
+use Rattle.replies.specs.Replies.{answerOf}
+use Rattle.replies.proofs.Reading.{line-refused}
 use Rattle.keeping.specs.Kept.{mostKept}
 use Rattle.keeping.proofs.Kept.{long-refused}
 
 -- a line and its first 65 bytes have one answer
 pub first-decide : (tablebase line : List ℕ) → answerOf tablebase (take mostKept line) ≡ answerOf tablebase line
-unfolding answerOf
 first-decide tablebase line = go (ltb mostKept (length line)) refl
   where
-    go : (t : Bool) → ltb mostKept (length line) ≡ t
-        → frameLine tablebase (take mostKept line) (readFrameCall (take mostKept line)) ≡ frameLine tablebase line (readFrameCall line)
+    go : (t : Bool) → ltb mostKept (length line) ≡ t → answerOf tablebase (take mostKept line) ≡ answerOf tablebase line
     go true e =
         let w = long-refused line (omega (arith, ltb-true mostKept (length line) e)) in
-        ap (frameLine tablebase (take mostKept line)) (frame-turned (take mostKept line) (w .0)) ∙ sym (ap (frameLine tablebase line) (frame-turned line (w .1)))
-    go false e = ap (λ (l : List ℕ). frameLine tablebase l (readFrameCall l)) (take-all mostKept line (ltb-false mostKept (length line) e))
+        sym (line-refused tablebase (take mostKept line) 14 (sym (frame-turned (take mostKept line) (w .0))))
+        ∙ line-refused tablebase line 14 (sym (frame-turned line (w .1)))
+    go false e = ap (answerOf tablebase) (take-all mostKept line (ltb-false mostKept (length line) e))

@@ -43,7 +43,21 @@ module _ (tablebase line : List ℕ) where
       refused-line n some
       (first-kept reading (record { holds = positionUnreachable (ringsIn line) deskEdition (boardIn line); number = 15 } ∷ []) n some same)
 
-  -- a position: the rings are few, and the sets stand for the frame's board
+  -- a position that is read: refused with 15 where no game reaches it, else its board's line
+  pub read-decides : (vs : List ℕ) → accepted vs ≡ readFrameCall line
+      → answerOf tablebase line
+      ≡ cond (positionUnreachable (ringsIn line) deskEdition (boardIn line)) (refusedLine 15) (boardLine tablebase (ringsIn line) (boardIn line))
+  unfolding answerOf
+  read-decides vs e =
+      ap (frameLine tablebase line)
+      (one-more reading (positionUnreachable (ringsIn line) deskEdition (boardIn line)) 15 refl (sym (frame-given line vs e .0)))
+      ∙ go (positionUnreachable (ringsIn line) deskEdition (boardIn line))
+    where
+      go : (t : Bool) → frameLine tablebase line (cond t 15 0) ≡ cond t (refusedLine 15) (boardLine tablebase (ringsIn line) (boardIn line))
+      go true = refl
+      go false = refl
+
+  -- the rings are few, and the sets stand for the frame's board
   module _ (rings m o : ℕ) (e : accepted (rings ∷ m ∷ o ∷ []) ≡ readFrameCall line) where
     given : (refusal (readPicks line) ≡ 0) × (rings ∷ m ∷ o ∷ [] ≡ framePosition line)
     given = frame-given line (rings ∷ m ∷ o ∷ []) e
@@ -66,25 +80,24 @@ module _ (tablebase line : List ℕ) where
     shown : ShowsBoard (ringsIn line) (boardIn line) sides
     shown = board-shown (ringsIn line) (boardIn line) is-board sides same-position
 
+    same-board : boardOf (8 * rings) sides ≡ boardIn line
+    same-board = ap (λ (r : ℕ). boardOf (8 * r) sides) same-rings ∙ shown .back
+
     pub position-placed : Placed rings sides
     position-placed = subst (λ (r : ℕ). Placed r sides) (sym same-rings) (shown .placed)
 
-    -- a game may reach it, or not: what the test says of the sets decides
-    decided : (t : Bool) → t ≡ positionUnreachable rings deskEdition (boardOf (8 * rings) sides) → refusal (linePicks line) ≡ cond t 15 0
+    -- what the test says of the sets decides
+    decided : (t : Bool) → t ≡ positionUnreachable rings deskEdition (boardOf (8 * rings) sides)
+        → cond t (refusedLine 15) (boardLine tablebase (ringsIn line) (boardIn line)) ≡ answerOf tablebase line
     decided t q =
-        one-more reading (positionUnreachable (ringsIn line) deskEdition (boardIn line)) 15 refl (sym (given .0))
-        ∙ ap (λ (u : Bool). cond u 15 0)
-        (sym (q ∙ ap₂ (λ (r : ℕ) (b : List ℕ). positionUnreachable r deskEdition b) same-rings
-        (ap (λ (r : ℕ). boardOf (8 * r) sides) same-rings ∙ shown .back)))
+        ap (λ (u : Bool). cond u (refusedLine 15) (boardLine tablebase (ringsIn line) (boardIn line)))
+        (q ∙ ap₂ (λ (r : ℕ) (b : List ℕ). positionUnreachable r deskEdition b) same-rings same-board)
+        ∙ sym (read-decides (rings ∷ m ∷ o ∷ []) e)
 
     pub line-unreachable : true ≡ positionUnreachable rings deskEdition (boardOf (8 * rings) sides) → refusedLine 15 ≡ answerOf tablebase line
-    line-unreachable q = refused-line 15 (λ z. absurd (omega arith)) (sym (decided true q))
-
-    frame-board : take (8 * rings) (boardOf 24 sides) ≡ boardIn line
-    frame-board =
-        take-board (8 * rings) 24 sides (omega (arith, few-rings)) ∙ ap (λ (r : ℕ). boardOf (8 * r) sides) same-rings ∙ shown .back
+    line-unreachable q = decided true q
 
     pub line-board : false ≡ positionUnreachable rings deskEdition (boardOf (8 * rings) sides) → (b : List ℕ) → b ≡ take (8 * rings) (boardOf 24 sides)
         → boardLine tablebase rings b ≡ answerOf tablebase line
-    unfolding answerOf
-    line-board p b q = ap₂ (boardLine tablebase) same-rings (q ∙ frame-board) ∙ ap (frameLine tablebase line) (sym (decided false p))
+    line-board p b q =
+        ap₂ (boardLine tablebase) same-rings (q ∙ take-board (8 * rings) 24 sides (omega (arith, few-rings)) ∙ same-board) ∙ decided false p
