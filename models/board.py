@@ -53,3 +53,11 @@ def in_mill(board, stone):
         if board[first] == board[second] == board[third]:
             return True
     return False
+
+
+# Document 02, A1: "On three rings, if one side has nine stones and the other has a full mill".
+def unreachable(board):
+    def against(nine, other):
+        return board.count(nine) == 9 and any(in_mill(board, stone) for stone in points_of(board, other))
+
+    return len(board) == 24 and (against(MOVER, OPPONENT) or against(OPPONENT, MOVER))

@@ -3,7 +3,7 @@ elsewhere" after a refusal; then, where the call has a target, what the target h
 
 import classes
 import frames
-from board import MOVER, OPPONENT, counts, points_of
+from board import MOVER, OPPONENT, counts, points_of, unreachable
 from entries import DRAW, HIGHEST_LIMIT, VOID, best, choices, entry_of
 from fills import lower_places, pair_depths, pair_places, whole_depths
 from plies import after, listed, number, numbered
@@ -84,9 +84,15 @@ def representative(rings, board):
     return (refusal, 0) if refusal else (0, rank_of(classes.representative(board)))
 
 
+# Document 02, A1: "15, unreachable position"; A11: "15 is given under edition 1 only".
+def about_play(edition, board):
+    return {"unreachable": lambda: edition == 1 and unreachable(board)}
+
+
 # The conditions on a board whose entry or best move is sought.
 def about_entry(rings, edition, board, k, tablebase):
-    return about_edition(edition) | about_board(rings, board) | about_tablebase(rings, k, counts(board), tablebase)
+    stones = about_tablebase(rings, k, counts(board), tablebase)
+    return about_edition(edition) | about_board(rings, board) | about_play(edition, board) | stones
 
 
 # An entry means the outcome under the edition with which its tablebase was filled (A11), so it is read the same under either.

@@ -5,7 +5,8 @@ from functools import cache
 
 import frames
 from board import counts
-from calls import best_move, fill, lookup, rank, read_frame
+from calls import about_play, best_move, fill, lookup, rank, read_frame
+from refusals import first_refusal
 from tablebases import length
 
 HEADER = "rings mover opponent rank entry move"
@@ -29,12 +30,15 @@ def entry_and_move(rings, board):
     return entry, "-" if refusal else move
 
 
-# "A refused line prints `refused` and the number."
+# "A refused line prints `refused` and the number." 15 (document 02, A1) is no refusal of the reader's.
 def answer(line):
     refusal, rings, _, _ = read_frame(line)
     if refusal:
         return f"refused {refusal}"
     board = frames.board_of(line)
+    refusal = first_refusal(about_play(EDITION, board))
+    if refusal:
+        return f"refused {refusal}"
     return " ".join(map(str, (rings, *counts(board), rank(rings, board)[1], *entry_and_move(rings, board))))
 
 

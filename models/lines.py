@@ -53,6 +53,9 @@ COUNTS = b"""
     0345905a2699a6 030a919156aa61 0359268a949458 03040000800804 03aa65a5666599 03000000000000
 """.split()
 
+# 15: nine stones of either side against a mill; nine against three that are no mill are read.
+UNREACHABLE = b"0395aaaa000000 036a5555000000 0345aaaa020000".split()
+
 # Two boards of every table of one ring, and boards of tables with few and with many stones of two and three.
 TABLES = b"""
     0149a4 012616 019962 01685a 016a96 01a6a5 019295 015926 01695a 01a965 01559a 016665
@@ -110,7 +113,7 @@ def one_ring():
 
 
 def many():
-    refused = [*ODD, *BLANKS, *CHARACTERS, *about_64(), *RINGS, *LENGTHS, *VALUES, *COUNTS]
+    refused = [*ODD, *BLANKS, *CHARACTERS, *about_64(), *RINGS, *LENGTHS, *VALUES, *COUNTS, *UNREACHABLE]
     return [*SAMPLE, *refused, *TABLES, *ends(), *OUTCOMES, *LONG, *MIXED, GOOD, *one_ring()]
 
 

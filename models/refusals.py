@@ -1,4 +1,4 @@
-"""Where a call is turned back (document 01, the section of that name, with document 02's 20)."""
+"""Where a call is turned back (document 01, the section of that name, with document 02's 15 and 20)."""
 
 # "Places are taken from top to bottom, conditions left to right": place, condition, number.
 TABLE = (
@@ -8,6 +8,7 @@ TABLE = (
     ("board", "length", 2),
     ("board", "value", 3),
     ("counts", "counts", 4),
+    ("counts", "unreachable", 15),
     ("shelf", "k", 11),
     ("shelf", "tablebase length", 6),
     ("limit", "limit", 10),

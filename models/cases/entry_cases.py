@@ -1,7 +1,7 @@
 """Entries looked up and best moves, in a tablebase of one ring."""
 
 import calls
-from cases.notation import answered, board
+from cases.notation import NINE_AGAINST_MILL, answered, board
 from cases.sums import made_up, throughout, with_digit, with_entry
 from entries import VOID
 from tablebases import size, tables
@@ -13,11 +13,11 @@ LOOKUPS = (
     (1, 1, "02122011", 9), (1, 1, "11212121", 9),
     # Two boards whose entries are others under edition 2: three and four stones against a full mill.
     (1, 1, "01011222", 5), (1, 1, "10111222", 5),
-    # Each refusal but 12 and 20, and the first of two.
+    # Each refusal but 12, 15 and 20, and the first of two.
     (0, 1, "02122011", 5), (4, 1, "011", 5), (1, 1, "2122011", 5), (2, 1, "32122011", 5), (1, 1, "32122011", 5),
     (1, 1, "02322011", 5), (1, 1, "02022011", 2), (1, 1, "02122011", 2), (1, 1, "02122011", 10), (1, 1, "11212121", 4),
     (1, 1, "02122011", 4),
-    # 20 after 1 and before each other refusal but 12.
+    # 20 after 1 and before each other refusal but 12 and 15.
     (1, 0, "02122011", 5), (1, 3, "02122011", 5), (4, 3, "011", 5), (1, 0, "2122011", 5), (1, 3, "02322011", 5),
     (1, 0, "02022011", 5), (1, 3, "02122011", 2), (1, 0, "02122011", 4),
 )
@@ -29,12 +29,23 @@ BEST_MOVES = (
     (1, 1, "11112222", 5),
     # The two boards whose entries are others under edition 2.
     (1, 1, "01011222", 5), (1, 1, "10111222", 5),
-    # Each refusal but 12 and 20, and the first of two.
+    # Each refusal but 12, 15 and 20, and the first of two.
     (0, 1, "011", 5), (1, 1, "2122011", 5), (1, 1, "02322011", 5), (1, 1, "02022011", 2), (1, 1, "11212121", 4),
     (1, 1, "11112222", 4),
-    # 20 after 1 and before each other refusal but 12.
+    # 20 after 1 and before each other refusal but 12 and 15.
     (1, 0, "02122011", 5), (1, 3, "02122011", 5), (4, 3, "011", 5), (1, 0, "2122011", 5), (1, 3, "02322011", 5),
     (1, 0, "02022011", 5), (1, 3, "02122011", 2), (1, 0, "02122011", 4), (1, 3, "11112222", 5),
+)
+
+# Document 02's 15, in a tablebase of 1,302 entries.
+UNREACHABLE = (
+    # Nine stones against a mill on three rings, of either side, with K 9 and K 2; and under edition 2.
+    (3, 1, NINE_AGAINST_MILL, 9), (3, 1, NINE_AGAINST_MILL, 2), (3, 2, NINE_AGAINST_MILL, 9),
+    (3, 1, "000000000000111111111222", 9), (3, 2, "000000000000111111111222", 2),
+    # 4, 20 and 2 before it.
+    (3, 1, "000002222222221111111111", 9), (3, 3, NINE_AGAINST_MILL, 9), (3, 1, NINE_AGAINST_MILL[1:], 9),
+    # Nine against three that are no mill, eight against a mill, and nine against a mill on two rings.
+    (3, 1, "000000000002222222221011", 9), (3, 1, "000000000000022222222111", 9), (2, 1, "0000222222222111", 9),
 )
 
 # In a tablebase that was filled under edition 2: document 01's first board, the two that differ, a blocked mover.
@@ -107,8 +118,8 @@ def filled_under_2():
 
 def lines():
     tablebase = calls.fill(1, 1, 5, 2000, throughout(0, 1302))[1]
-    yield from (lookup(*case, tablebase) for case in LOOKUPS)
-    yield from (best_move(*case, tablebase) for case in BEST_MOVES)
+    yield from (lookup(*case, tablebase) for case in LOOKUPS + UNREACHABLE)
+    yield from (best_move(*case, tablebase) for case in BEST_MOVES + UNREACHABLE)
     yield from answers_of_all("answers", 1, tablebase)
     yield from filled_under_2()
     yield from beside_a_void()

@@ -25,3 +25,6 @@ def done(refusal, word):
 
 # A board of three rings: mills across the rings and slides between them.
 THREE_RINGS = "100221000000201000002010"
+
+# A board of three rings that no game reaches (document 02, A1): nine opposing stones against a mill of the mover's.
+NINE_AGAINST_MILL = "000000000000222222222111"

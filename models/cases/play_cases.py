@@ -1,7 +1,7 @@
 """Moves listed and made, and the lists of tables as digits."""
 
 import calls
-from cases.notation import THREE_RINGS, answered, board, done, numbers, points
+from cases.notation import NINE_AGAINST_MILL, THREE_RINGS, answered, board, done, numbers, points
 from cases.sums import with_digit
 
 # A board of two rings whose opposing stones all stand in two mills that share a corner.
@@ -15,6 +15,8 @@ LISTS = (
     # Each refusal but 20; a list just too short and one just long enough; a blocked mover with no list at all.
     (0, 1, "02122011", 2), (1, 1, "2122011", 2), (1, 1, "02122311", 2), (1, 1, "02022011", 2), (1, 1, "02122011", 7),
     (1, 1, "02122011", 8), (1, 1, "22221111", 0),
+    # A board that no game reaches has its moves all the same.
+    (3, 1, NINE_AGAINST_MILL, 37),
     # Edition 2 removes a stone outside any mill as edition 1 does, and none where all stand in one mill or in two.
     (1, 2, "21011222", 4), (1, 2, "01011222", 8), (2, 1, TWO_MILLS, 12), (2, 2, TWO_MILLS, 5),
     # 20 after 1 and before each other refusal.
@@ -30,6 +32,8 @@ MOVES = (
     # Each refusal but 20, and the first of two.
     (1, 1, "02122011", 96, 9), (1, 1, "02022011", 95, 9), (1, 1, "02132011", 95, 8), (1, 1, "2122011", 95, 7),
     (4, 1, "02122011", 95, 8), (3, 1, THREE_RINGS, 18996, 24),
+    # A move of a board that no game reaches.
+    (3, 1, NINE_AGAINST_MILL, 415, 24),
     # A closed mill in both editions: with a removal and without where a stone stands outside any mill, then where all stand
     # in mills.
     (1, 2, "02122011", 5187, 8), (1, 2, "02122011", 5215, 8), (1, 1, "01011222", 3232, 8), (1, 1, "01011222", 3263, 8),

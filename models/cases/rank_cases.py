@@ -2,7 +2,7 @@
 
 import calls
 import tablebases
-from cases.notation import answered, board, done, points
+from cases.notation import NINE_AGAINST_MILL, answered, board, done, points
 
 RANKS = (
     # Starred: one ring, 3-3.
@@ -10,6 +10,8 @@ RANKS = (
     # Each refusal of a board, and the first of two; the last board has no vacant point.
     (0, "00111222"), (4, "222"), (1, "0111222"), (2, "30111222"), (1, "30111222"), (1, "00311222"), (1, "00011222"),
     (1, ""), (1, "11111222"),
+    # A board that no game reaches has a rank all the same.
+    (3, NINE_AGAINST_MILL),
 )
 
 # Rings, counts, rank, and the length of the target.

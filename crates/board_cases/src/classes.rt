@@ -26,7 +26,7 @@ fn representative_of(rings: u8, board: &[u8]) {
 // The rank of the representative of a board's class.
 fn representative(rings: u8, length: usize, digits: u64) {
     let board = board_of(digits);
-    let n = least(length, 16);
+    let n = least(length, 24);
     representative_of(rings, &board[0..n]);
 }
 
@@ -62,7 +62,7 @@ fn classes(rings: u8, mover: u8, opponent: u8, size: u64) {
     end();
 }
 
-// A board, a turn and a mirror of it; others, one with its rings reversed; and each refusal. Then the classes of whole
+// A board, a turn and a mirror of it; others, one with its rings reversed, one that no game reaches; and each refusal. Then the classes of whole
 // tables.
 pub fn run() {
     representative(1, 8, 02122011);
@@ -73,6 +73,7 @@ pub fn run() {
     representative(2, 16, 0001001002220101);
     representative(2, 16, 0222010100010010);
     representative_of(3, &three_rings());
+    representative(3, 24, 222222222111);
     representative(0, 8, 02122011);
     representative(1, 7, 2122011);
     representative(1, 8, 42122011);

@@ -90,8 +90,8 @@ module _ (limit : ℕ) (before after : List ℕ) (filled : FillCall 1 deskEditio
       → (answerOf after line ≡ boardLine after 1 (boardIn line)) × Shown after (boardIn line)
   line-shown line vs e r = (
     read-decides after line vs e
-    ∙ ap (λ (t : Bool). cond t (refusedLine 15) (boardLine after (ringsIn line) (boardIn line)))
-    (few-reached (ringsIn line) deskEdition (boardIn line) (λ z. omega (arith, z, r))) ∙ ap (λ (n : ℕ). boardLine after n (boardIn line)) r,
+        ∙ ap (λ (t : Bool). cond t (refusedLine 15) (boardLine after (ringsIn line) (boardIn line)))
+        (few-reached (ringsIn line) deskEdition (boardIn line) (λ z. omega (arith, z, r))) ∙ ap (λ (n : ℕ). boardLine after n (boardIn line)) r,
     board-shown (boardIn line)
         (subst (λ (n : ℕ). refusal (boardPicks n (boardIn line)) ≡ 0) r (board-accepted line (frame-given line vs e .0))),
   )

@@ -112,11 +112,11 @@ pub fn table(word: &[u8], rings: u8, mover: u8, opponent: u8) {
 }
 
 // The board that a number's digits write, the last of them point 0.
-pub fn board_of(digits: u64) -> [u8; 16] {
-    let mut board = [0u8; 16];
+pub fn board_of(digits: u64) -> [u8; 24] {
+    let mut board = [0u8; 24];
     let mut left = digits;
     let mut i = 0;
-    while i < 16 {
+    while i < 24 {
         board[i] = (left % 10) as u8;
         left = left / 10;
         i += 1;

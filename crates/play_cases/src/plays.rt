@@ -35,7 +35,7 @@ fn list_over(rings: u8, edition: u8, board: &[u8], list: &mut [u16]) {
 // The moves of a board of so many points, and what a list of sevens then holds.
 fn moves(rings: u8, edition: u8, length: usize, digits: u64, room: usize) {
     let board = board_of(digits);
-    let n = least(length, 16);
+    let n = least(length, 24);
     let mut list = [7u16; 12];
     let m = least(room, 12);
     list_over(rings, edition, &board[0..n], &mut list[0..m]);
@@ -57,14 +57,14 @@ fn make_over(rings: u8, edition: u8, board: &[u8], move_number: u16, target: &mu
 // The board after a move, and what a target of sevens then holds.
 fn make_move(rings: u8, edition: u8, length: usize, digits: u64, move_number: u16, room: usize) {
     let board = board_of(digits);
-    let n = least(length, 16);
+    let n = least(length, 24);
     let mut target = [7u8; 24];
     let m = least(room, 24);
     make_over(rings, edition, &board[0..n], move_number, &mut target[0..m]);
 }
 
 // Worked boards: document 01's own, a shield, no shield, the vacated point, four stones on one ring, two rings, three rings. Then each
-// refusal of a list but 20, and a blocked mover with no list at all.
+// refusal of a list but 20, and a blocked mover with no list at all; and a board that no game reaches.
 fn lists() {
     moves(1, 1, 8, 02122011, 10);
     moves(1, 1, 8, 21011222, 4);
@@ -80,6 +80,7 @@ fn lists() {
     moves(1, 1, 8, 02122011, 7);
     moves(1, 1, 8, 02122011, 8);
     moves(1, 1, 8, 22221111, 0);
+    list_over(3, 1, &board_of(222222222111), &mut [7; 37]);
 }
 
 // Edition 2 removes a stone outside any mill as edition 1 does, and none where all stand in one mill, or in two. Then 20, after 1 and before each other
@@ -99,7 +100,7 @@ fn lists_by_edition() {
     moves(1, 3, 8, 02122011, 7);
 }
 
-// Moves made, with a removal and without, and each refusal but 20; two stones may be left.
+// Moves made, with a removal and without, and each refusal but 20; two stones may be left. And one of a board that no game reaches.
 fn plies() {
     make_move(1, 1, 8, 02122011, 5187, 8);
     make_move(1, 1, 8, 02122011, 5188, 8);
@@ -113,6 +114,7 @@ fn plies() {
     make_move(1, 1, 7, 2122011, 95, 7);
     make_move(4, 1, 8, 02122011, 95, 8);
     make_over(3, 1, &three_rings(), 18996, &mut [7; 24]);
+    make_over(3, 1, &board_of(222222222111), 415, &mut [7; 24]);
 }
 
 // A closed mill in both editions: with a removal and without where a stone stands outside any mill, then where all stand in mills. Then 20, after 1 and

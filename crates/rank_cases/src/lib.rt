@@ -18,7 +18,7 @@ use notation::text;
 // The rank of a board of so many points.
 fn rank(rings: u8, length: usize, digits: u64) {
     let all = board_of(digits);
-    let points = least(length, 16);
+    let points = least(length, 24);
     let board = &all[0..points];
     about(b"rank", rings, board);
     colon();
@@ -83,7 +83,7 @@ fn round_trips(rings: u8, mover: u8, opponent: u8, ranks: u64) {
     );
 }
 
-// Starred: one ring, 3-3. Then each refusal of a board, and the first of two.
+// Starred: one ring, 3-3. Then each refusal of a board, and the first of two; and a board that no game reaches.
 fn ranks() {
     rank(1, 8, 00111222);
     rank(1, 8, 10011222);
@@ -100,6 +100,7 @@ fn ranks() {
     rank(1, 8, 00011222);
     rank(1, 0, 0);
     rank(1, 8, 11111222);
+    rank(3, 24, 222222222111);
 }
 
 // Boards of ranks on one ring, and each refusal; on three rings the first and the last of the two sizes that document 01 gives.

@@ -7,10 +7,10 @@ use Rattle.notation.proofs.board_of.Statement.{statement}
 use Rattle.notation.proofs.board_of.Tie as tie
 
 abbrev Inv-loop : tie.InvT-loop
-Inv-loop digits board₀ left₀ i₀ board left i = (i ≤ 16) × (length board ≡ 16)
+Inv-loop digits board₀ left₀ i₀ board left i = (i ≤ 24) × (length board ≡ 24)
 
 abbrev μ-loop : tie.MeasureT-loop
-μ-loop digits board₀ left₀ i₀ board left i = 16 - i
+μ-loop digits board₀ left₀ i₀ board left i = 24 - i
 
 loop-holds : tie.Need-loop-holds Inv-loop μ-loop
 loop-holds c = search needs

@@ -1,29 +1,32 @@
 -- `reachability::nine_against_mill` meets its contract: the count decides, then the mills. Assumes nothing.
-use mathlib.Core.Path.{sym, ap, ap₂, _∙_}
+use mathlib.Core.Path.{_≡_, sym, ap, _∙_}
 use mathlib.Core.Bool.{Bool, _&&_}
+use Prim.Native.Nat.{ℕ}
+use lib.Dec.{eqb}
 use borrow.Author.Tests.{eq-eqb, ne-eqb}
 use borrow.Author.Needs.{needs}
+use Rattle.sets.specs.Sets.{has, members}
 use Rattle.rules.specs.Unreachable.{hasMill}
-use Rattle.sets.specs.Sets.{has}
 use Rattle.reachability.proofs.nine_against_mill.Statement.{statement}
 use Rattle.reachability.proofs.nine_against_mill.Tie as tie
+
+-- what the count says of nine stones
+counted : (c : tie.After-count) (t : Bool) → eqb (c .count .result) 9 ≡ t
+    → (t && hasMill 3 (λ q. has (c .before .args .other) q))
+    ≡ (eqb (members (c .before .args .side) 32) 9 && hasMill 3 (λ q. has (c .before .args .other) q))
+counted c t e = ap (λ (u : Bool). u && hasMill 3 (λ q. has (c .before .args .other) q)) (sym e ∙ ap (λ (n : ℕ). eqb n 9) (c .count .ensures))
 
 count-requires : tie.Need-count-requires
 count-requires c κs = search needs
 
-returns : tie.Need-returns
-returns c =
-    let n = c .before in
-    let a = n .before .args in
-    sym (ap (λ (t : Bool). t && hasMill 3 (λ q. has (a .other) q)) (ne-eqb _ _ (λ e. c .if1 .taken (n .count .ensures ∙ e))))
-
 has-mill-requires : tie.Need-has-mill-requires
 has-mill-requires c κs = search needs
 
+returns : tie.Need-returns
+returns c = c .has-mill .ensures ∙ counted (c .before .before) _ (eq-eqb _ _ (c .before .if1 .taken))
+
 returns-2 : tie.Need-returns-2
-returns-2 c =
-    let n = c .before .before in
-    c .has-mill .ensures ∙ sym (ap (λ (t : Bool). t && hasMill 3 (λ q. has (n .before .args .other) q)) (eq-eqb _ _ (sym (n .count .ensures) ∙ c .before .if1 .left)))
+returns-2 c = let e = ne-eqb _ _ (c .if1 .left) in e ∙ counted (c .before) _ e
 
 pub nine-against-mill-spec : {M : Type 1} → statement M
-nine-against-mill-spec = tie.close (tie.spec count-requires returns has-mill-requires returns-2)
+nine-against-mill-spec = tie.close (tie.spec count-requires has-mill-requires returns returns-2)
