@@ -35,7 +35,10 @@ fn has_mill(stones: u32) -> bool
 fn nine_against_mill(side: u32, other: u32) -> bool
     ensures { λ r. ⌜ r ≡ (eqb (members side 32) 9 && hasMill 3 (λ q. has other q)) ⌝ }
 {
-    sets::count(side) == ALL_STONES && has_mill(other)
+    if sets::count(side) != ALL_STONES {
+        return false;
+    }
+    has_mill(other)
 }
 
 // Whether a position is refused under an edition, since no game reaches it.

@@ -17,6 +17,13 @@ use Rattle.refusals.specs.Refusals.{Picked, refusalTable, pickedRows, re
 use Rattle.refusals.specs.Conditions.{positionUnreachable, countAbove, ruledPicks, reachablePicks, largestPicks, tablebasePicks, valueWrong}
 use Rattle.refusals.proofs.FirstRefusal.{passed, first-kept, first-after, both-passed, first-cons, one-more}
 
+-- nine stones against a mill of three with K 2: 15, and 11 under edition 2; against a mill of ten: 4
+pub fifteen-cases : (refusal (tablebasePicks 3 1 (1 ∷ 1 ∷ 1 ∷ replicate {A = ℕ} 9 2 ++ replicate {A = ℕ} 12 0) 2 0) ≡ 15)
+    × (refusal (tablebasePicks 3 2 (1 ∷ 1 ∷ 1 ∷ replicate {A = ℕ} 9 2 ++ replicate {A = ℕ} 12 0) 2 0) ≡ 11)
+    × (refusal (tablebasePicks 3 1 (replicate {A = ℕ} 10 1 ++ replicate {A = ℕ} 9 2 ++ replicate {A = ℕ} 5 0) 2 0) ≡ 4)
+unfolding valueWrong
+fifteen-cases = (rw (unreachable-cases .0) refl, refl, refl)
+
 -- under another edition, and on fewer rings, no position meets it
 pub other-edition : (rings edition : ℕ) (b : List ℕ) → (edition ≡ 1 → ⊥) → positionUnreachable rings edition b ≡ false
 other-edition rings edition b n = ap (λ (t : Bool). t && unreachable rings b) (ne-eqb edition 1 n)
@@ -63,14 +70,6 @@ module _ (rings edition : ℕ) (b : List ℕ) where
         → refusal (tablebasePicks rings edition b k n)
         ≡ cond (positionUnreachable rings edition b) 15 (refusal (largestPicks rings k (countAbove k (count 1 b) (count 2 b)) n))
     before-eleven e = first-after board (reached ++ largest) refl e ∙ first-cons (positionUnreachable rings edition b) 15 largest
-
--- nine stones against a mill of three with K 2: 15, and 11 under edition 2; against a mill of ten: 4
-pub fifteen-cases : (refusal (tablebasePicks 3 1 (1 ∷ 1 ∷ 1 ∷ replicate {A = ℕ} 9 2 ++ replicate {A = ℕ} 12 0) 2 0) ≡ 15)
-    × (refusal (tablebasePicks 3 2 (1 ∷ 1 ∷ 1 ∷ replicate {A = ℕ} 9 2 ++ replicate {A = ℕ} 12 0) 2 0) ≡ 11)
-    × (refusal (tablebasePicks 3 1 (replicate {A = ℕ} 10 1 ++ replicate {A = ℕ} 9 2 ++ replicate {A = ℕ} 5 0) 2 0) ≡ 4)
-unfolding valueWrong
-fifteen-cases =
-    (before-eleven 3 1 (1 ∷ 1 ∷ 1 ∷ replicate {A = ℕ} 9 2 ++ replicate {A = ℕ} 12 0) 2 0 refl ∙ ap (λ (t : Bool). cond t 15 11) (unreachable-cases .0), refl, refl)
 
 -- a ply from a board that does not meet it leads to one that does not
 pub reachable-next : (rings edition : ℕ) → rings ≤ 3 → (b : List ℕ) → Values b → length b ≡ 8 * rings → count 2 b ≤ 9

@@ -29,20 +29,6 @@ module _ (tablebase line : List ℕ) where
   abbrev reading : List Picked
   reading = pickedRows refusalTable (readPicks line)
 
-  -- turned back
-  refused-line : (n : ℕ) → (n ≡ 0 → ⊥) → n ≡ refusal (linePicks line) → refusedLine n ≡ answerOf tablebase line
-  unfolding answerOf
-  refused-line zero z e = absurd (z refl)
-  refused-line (suc n) z e = ap (frameLine tablebase line) e
-
-  -- by reading
-  pub line-refused : (n : ℕ) → refused n ≡ readFrameCall line → refusedLine n ≡ answerOf tablebase line
-  unfolding readFrameCall
-  line-refused n e =
-      let (same, some) = refused-number n (refusal (readPicks line)) (framePosition line) e in
-      refused-line n some
-      (first-kept reading (record { holds = positionUnreachable (ringsIn line) deskEdition (boardIn line); number = 15 } ∷ []) n some same)
-
   -- a position that is read: refused with 15 where no game reaches it, else its board's line
   pub read-decides : (vs : List ℕ) → accepted vs ≡ readFrameCall line
       → answerOf tablebase line
@@ -56,6 +42,20 @@ module _ (tablebase line : List ℕ) where
       go : (t : Bool) → frameLine tablebase line (cond t 15 0) ≡ cond t (refusedLine 15) (boardLine tablebase (ringsIn line) (boardIn line))
       go true = refl
       go false = refl
+
+  -- turned back
+  refused-line : (n : ℕ) → (n ≡ 0 → ⊥) → n ≡ refusal (linePicks line) → refusedLine n ≡ answerOf tablebase line
+  unfolding answerOf
+  refused-line zero z e = absurd (z refl)
+  refused-line (suc n) z e = ap (frameLine tablebase line) e
+
+  -- by reading
+  pub line-refused : (n : ℕ) → refused n ≡ readFrameCall line → refusedLine n ≡ answerOf tablebase line
+  unfolding readFrameCall
+  line-refused n e =
+      let (same, some) = refused-number n (refusal (readPicks line)) (framePosition line) e in
+      refused-line n some
+      (first-kept reading (record { holds = positionUnreachable (ringsIn line) deskEdition (boardIn line); number = 15 } ∷ []) n some same)
 
   -- the rings are few, and the sets stand for the frame's board
   module _ (rings m o : ℕ) (e : accepted (rings ∷ m ∷ o ∷ []) ≡ readFrameCall line) where

@@ -27,6 +27,16 @@ use Rattle.rules.proofs.Leads.{exchange-counts, slide-counts, slide-len
 use Rattle.rules.proofs.OnSets.{length-holding}
 use Rattle.rules.proofs.Mills.{in-mill-any}
 
+-- worked boards, point 0 first: nine opposing stones against a mill, and nine own ones; against three stones that are no mill; eight against a mill;
+-- and nine against a mill on two rings
+pub unreachable-cases : (unreachable 3 (1 ∷ 1 ∷ 1 ∷ replicate {A = ℕ} 9 2 ++ replicate {A = ℕ} 12 0) ≡ true)
+    × (unreachable 3 (2 ∷ 2 ∷ 2 ∷ replicate {A = ℕ} 9 1 ++ replicate {A = ℕ} 12 0) ≡ true)
+    × (unreachable 3 (1 ∷ 1 ∷ 0 ∷ 1 ∷ replicate {A = ℕ} 9 2 ++ replicate {A = ℕ} 11 0) ≡ false)
+    × (unreachable 3 (1 ∷ 1 ∷ 1 ∷ replicate {A = ℕ} 8 2 ++ replicate {A = ℕ} 13 0) ≡ false)
+    × (unreachable 2 (1 ∷ 1 ∷ 1 ∷ replicate {A = ℕ} 9 2 ++ replicate {A = ℕ} 4 0) ≡ false)
+unfolding unreachable nineAgainstMill hasMill ringMills crossMills mills
+unreachable-cases = (refl, refl, refl, refl, refl)
+
 -- a mill whose points all hold v
 pub record Mill (rings : ℕ) (b : List ℕ) (v : ℕ) : Type 0 where
   pub points : List ℕ
@@ -241,13 +251,3 @@ pub edition-two-leaves : (unreachable 3 shieldedNine ≡ false) × (member 14015
     × (unreachable 3 (afterPly shieldedNine 14015) ≡ true) × (member 14015 (moves (removable 1) 3 shieldedNine) ≡ false)
 unfolding unreachable nineAgainstMill hasMill moves holding inMill destinations slide unshielded ifAllShielded removable removals afterPly remove exchange points follows inward adjoin ringMills crossMills mills
 edition-two-leaves = (refl, refl, refl, refl)
-
--- worked boards, point 0 first: nine opposing stones against a mill, and nine own ones; against three stones that are no mill; eight against a mill;
--- and nine against a mill on two rings
-pub unreachable-cases : (unreachable 3 (1 ∷ 1 ∷ 1 ∷ replicate {A = ℕ} 9 2 ++ replicate {A = ℕ} 12 0) ≡ true)
-    × (unreachable 3 (2 ∷ 2 ∷ 2 ∷ replicate {A = ℕ} 9 1 ++ replicate {A = ℕ} 12 0) ≡ true)
-    × (unreachable 3 (1 ∷ 1 ∷ 0 ∷ 1 ∷ replicate {A = ℕ} 9 2 ++ replicate {A = ℕ} 11 0) ≡ false)
-    × (unreachable 3 (1 ∷ 1 ∷ 1 ∷ replicate {A = ℕ} 8 2 ++ replicate {A = ℕ} 13 0) ≡ false)
-    × (unreachable 2 (1 ∷ 1 ∷ 1 ∷ replicate {A = ℕ} 9 2 ++ replicate {A = ℕ} 4 0) ≡ false)
-unfolding unreachable nineAgainstMill hasMill ringMills crossMills mills
-unreachable-cases = (refl, refl, refl, refl, refl)

@@ -41,7 +41,7 @@ returns c =
     let l = c .before in
     let t = l .before .before .before in
     let s = t .before .before .before in
-    mill-found (s .args .stones) (s .fits .stones .fits) (t .before .loop .i) (t .loop-test .taken) (t .before .loop .inv) (sym (looked l) ∙ c .if1 .taken)
+    mill-found (s .args .stones) (s .fits .stones .fits) (t .before .loop .i) (omega (arith, t .loop-test .taken)) (t .before .loop .inv) (sym (looked l) ∙ c .if1 .taken)
 
 add-i : tie.Need-add-i Inv-loop μ-loop
 add-i c = search needs
@@ -57,7 +57,7 @@ loop-again c =
     let i = t .before .loop .i in
     let e : suc i ≡ i + 1 = omega arith in
     subst (MillsLeft (s .args .stones)) e
-    (mill-passed (s .args .stones) (s .fits .stones .fits) i (t .loop-test .taken) (t .before .loop .inv) (sym (looked l) ∙ c .if1 .left))
+    (mill-passed (s .args .stones) (s .fits .stones .fits) i (omega (arith, t .loop-test .taken)) (t .before .loop .inv) (sym (looked l) ∙ c .if1 .left))
 
 returns-2 : tie.Need-returns-2 Inv-loop μ-loop
 returns-2 c = mills-none (c .before .before .before .args .stones) (c .before .loop .i) (omega (arith, c .loop-test .left)) (c .before .loop .inv)

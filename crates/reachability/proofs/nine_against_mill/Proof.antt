@@ -19,14 +19,14 @@ counted c t e = ap (λ (u : Bool). u && hasMill 3 (λ q. has (c .before .args .o
 count-requires : tie.Need-count-requires
 count-requires c κs = search needs
 
+returns : tie.Need-returns
+returns c = counted (c .before) _ (ne-eqb _ _ (c .if1 .taken))
+
 has-mill-requires : tie.Need-has-mill-requires
 has-mill-requires c κs = search needs
 
-returns : tie.Need-returns
-returns c = c .has-mill .ensures ∙ counted (c .before .before) _ (eq-eqb _ _ (c .before .if1 .taken))
-
 returns-2 : tie.Need-returns-2
-returns-2 c = let e = ne-eqb _ _ (c .if1 .left) in e ∙ counted (c .before) _ e
+returns-2 c = c .has-mill .ensures ∙ counted (c .before .before) _ (eq-eqb _ _ (c .before .if1 .left))
 
 pub nine-against-mill-spec : {M : Type 1} → statement M
-nine-against-mill-spec = tie.close (tie.spec count-requires has-mill-requires returns returns-2)
+nine-against-mill-spec = tie.close (tie.spec count-requires returns has-mill-requires returns-2)

@@ -50,13 +50,6 @@ returns c =
     ap refusedLine k ∙ line-refused (a .tablebase .now) (a .line .now) _ (sym (ap frameRead q) ∙ f .read-frame .ensures) in
     same-written (a .at) _ (a .out .now) _ e (x .put-refused .ensures)
 
-unreachable-requires : tie.Need-unreachable-requires
-unreachable-requires c κs =
-    let g = c .before .read .given in
-    let f = c .before .before .before in
-    let a = f .before .before .before .before .args in
-    position-placed (a .tablebase .now) (a .line .now) (g .0 .0) (g .0 .1 .0) (g .0 .1 .1 .0) (sym (ap frameRead (g .1)) ∙ f .read-frame .ensures)
-
 cast-put-refused-2 : tie.Need-cast-put-refused-2
 cast-put-refused-2 c = search needs
 
@@ -134,6 +127,13 @@ returns-3 c =
     line-board (a .tablebase .now) (a .line .now) (g .0 .0) (g .0 .1 .0) (g .0 .1 .1 .0) (sym (ap frameRead (g .1)) ∙ f .read-frame .ensures)
     (sym (i .if1 .left) ∙ u .unreachable .ensures) _ (ap (take (8 * g .0 .0)) (b .write-board .ensures)) in
     same-written (a .at) _ (a .out .now) _ e (x .put-board .ensures)
+
+unreachable-requires : tie.Need-unreachable-requires
+unreachable-requires c κs =
+    let g = c .before .read .given in
+    let f = c .before .before .before in
+    let a = f .before .before .before .before .args in
+    position-placed (a .tablebase .now) (a .line .now) (g .0 .0) (g .0 .1 .0) (g .0 .1 .1 .0) (sym (ap frameRead (g .1)) ∙ f .read-frame .ensures)
 
 pub answer-at-spec : {M : Type 1} → statement M
 answer-at-spec =
