@@ -25,6 +25,8 @@
  *    6  target board or tablebase length wrong    13  a forced end beyond the limit
  *    7  move list or frame target too short       14  a frame empty, over 64 characters, of odd length, or with a
  *                                                     character outside 0-9 a-f
+ *                                                 15  unreachable position: three rings, one side with nine stones and
+ *                                                     the other with a full mill; under edition 1
  *                                                 20  edition not 1 or 2
  */
 #ifndef MORRIS_H
@@ -72,12 +74,12 @@ uint8_t morris_fill(uint8_t rings, uint8_t edition, uint8_t k, uint32_t limit, u
 uint8_t morris_fill_pair(uint8_t rings, uint8_t edition, uint8_t mover, uint8_t opponent, uint8_t k, uint32_t limit, uint16_t *tablebase,
                          size_t tablebase_len);
 
-/* The entry of a board in a tablebase of largest count k, as it was filled. Refusals 1, 20, 2, 3, 4, 11, 6, 12. */
+/* The entry of a board in a tablebase of largest count k, as it was filled. Refusals 1, 20, 2, 3, 4, 15, 11, 6, 12. */
 uint8_t morris_lookup(uint8_t rings, uint8_t edition, const uint8_t *board, size_t board_len, uint8_t k, const uint16_t *tablebase, size_t tablebase_len,
                       uint16_t *entry);
 
 /* The best move of a board, and the entry of the successor that it leads to: the first of those listed under an edition among quickest win, else a
- * draw, else longest loss. Refusals 1, 20, 2, 3, 4, 11, 6, 9, 12. */
+ * draw, else longest loss. Refusals 1, 20, 2, 3, 4, 15, 11, 6, 9, 12. */
 uint8_t morris_best_move(uint8_t rings, uint8_t edition, const uint8_t *board, size_t board_len, uint8_t k, const uint16_t *tablebase,
                          size_t tablebase_len, uint16_t *number, uint16_t *entry);
 

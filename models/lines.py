@@ -53,8 +53,8 @@ COUNTS = b"""
     0345905a2699a6 030a919156aa61 0359268a949458 03040000800804 03aa65a5666599 03000000000000
 """.split()
 
-# 15: nine stones of either side against a mill; nine against three that are no mill are read.
-UNREACHABLE = b"0395aaaa000000 036a5555000000 0345aaaa020000".split()
+# 15: nine stones of either side against a mill. Nine against three that are no mill, and against nine without one, are read.
+UNREACHABLE = b"0395aaaa000000 036a5555000000 0345aaaa020000 0326142285a569".split()
 
 # Two boards of every table of one ring, and boards of tables with few and with many stones of two and three.
 TABLES = b"""
@@ -64,7 +64,7 @@ TABLES = b"""
     03a6660091a591 0328a59a405586 0359a50189a402 03a54294260426 03298848040260 038a4062011022
 """.split()
 
-# Rings and counts of tables whose first and last board are read.
+# Rings and counts of tables whose first and last board are asked for; no game reaches those of nine against nine.
 ENDS = ((1, 3, 3), (2, 5, 5), (3, 8, 8), (3, 9, 9), (2, 9, 7))
 
 # One ring, by outcome: won in 1, 3 and 5; lost in 2 and 4; blocked; drawn. Then four stones blocked with a vacant point

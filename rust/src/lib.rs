@@ -48,6 +48,7 @@ impl fmt::Display for Refused {
             12 => "a void entry",
             13 => "a forced end beyond the limit",
             14 => "no frame",
+            15 => "unreachable position",
             20 => "edition not 1 or 2",
             _ => "unknown",
         };
@@ -128,7 +129,7 @@ pub fn fill_pair(rings: u8, edition: u8, mover: u8, opponent: u8, k: u8, limit: 
 }
 
 /// The entry of a board in a tablebase of largest count k, as it was filled: [`DRAW`], else plies to the end, odd won, even lost.
-/// Refusals 1, 20, 2, 3, 4, 11, 6, 12.
+/// Refusals 1, 20, 2, 3, 4, 15, 11, 6, 12.
 pub fn lookup(rings: u8, edition: u8, board: &[u8], k: u8, tablebase: &[u16]) -> Result<u16, Refused> {
     let mut entry = 0;
     let number = unsafe {
@@ -147,7 +148,7 @@ pub fn lookup(rings: u8, edition: u8, board: &[u8], k: u8, tablebase: &[u16]) ->
 }
 
 /// The best move of a board: the first of those listed under an edition among quickest win, else a draw, else longest loss.
-/// Refusals 1, 20, 2, 3, 4, 11, 6, 9, 12.
+/// Refusals 1, 20, 2, 3, 4, 15, 11, 6, 9, 12.
 pub fn best_move(rings: u8, edition: u8, board: &[u8], k: u8, tablebase: &[u16]) -> Result<BestMove, Refused> {
     let mut best = BestMove { number: 0, entry: 0 };
     let number = unsafe {

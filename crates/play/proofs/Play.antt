@@ -1,7 +1,8 @@
 -- The calls `moves` and `make_move` together, under one edition: a list of 324 places is never too short, it has captures first, each listed move is
--- made, and the board after it is accepted again unless its mover is left with two stones. Assumes nothing.
+-- made, and the board after it is accepted again unless its mover is left with two stones; and no move leads from a board that passes document 02's test
+-- (A1) to one that does not. Assumes nothing.
 use mathlib.Core.Path.{_≡_, sym, ap, _∙_}
-use mathlib.Core.Bool.{Bool, true, cond, not}
+use mathlib.Core.Bool.{Bool, true, false, cond, not}
 use mathlib.Core.List.{List, [], _∷_}
 use mathlib.Core.Logic.{inl, inr}
 use Prim.Native.Nat.{ℕ, _*_, _≤_, _<_}
@@ -17,17 +18,18 @@ use Rattle.rules.specs.MoveList.{listedMoves}
 use Rattle.rules.specs.Ply.{removable, moves, removedOf, afterPly}
 use Rattle.rules.proofs.Bound.{listed-bound}
 use Rattle.rules.proofs.CapturesFirst.{Ordered, moves-ordered, member-listed}
-use Rattle.rules.proofs.Listed.{removable-takes}
+use Rattle.rules.proofs.Listed.{removable-takes, of-successor}
 use Rattle.rules.proofs.Leads.{MoverLeft, ply-leads}
 use Rattle.rules.proofs.Rises.{removable-rising}
 use Rattle.refusals.specs.Refusals.{refusal}
-use Rattle.refusals.specs.Conditions.{boardPicks, ruledPicks, targetPicks, movePicks, listPicks}
+use Rattle.refusals.specs.Conditions.{positionUnreachable, boardPicks, ruledPicks, reachablePicks, targetPicks, movePicks, listPicks}
 use Rattle.answers.specs.Answers.{accepted}
 use Rattle.move_calls.specs.MovesCall.{movesCall, movesList}
 use Rattle.move_calls.specs.MakeMoveCall.{makeMoveCall, makeMoveTarget}
 use Rattle.refusals.proofs.EditionConditions.{edition-passed}
 use Rattle.refusals.proofs.Conditions.{RightCounts, Accepted, rings-first, ruled-board, ruled-passes, length-fine, list-decides}
 use Rattle.refusals.proofs.Conditions.{target-decides, move-decides}
+use Rattle.refusals.proofs.ReachableConditions.{reachable-passes, reachable-next}
 use Rattle.answers.proofs.Answering.{answer-accepted, target-written}
 
 module _ (rings edition : ℕ) (b : List ℕ) (e : refusal (ruledPicks rings edition b) ≡ 0) where
@@ -99,3 +101,12 @@ module _ (rings edition : ℕ) (b : List ℕ) (e : refusal (ruledPicks rings edi
         high : MoverLeft b (afterPly b move) (removedOf move) → count 2 b ≤ 9 → count 1 (afterPly b move) ≤ 9
         high (inl q) h = omega (arith, q .1)
         high (inr q) h = omega (arith, q .1)
+
+    -- nor 15, unless its own board does
+    pub after-reachable : 3 ≤ count 1 (afterPly b move) → positionUnreachable rings edition b ≡ false
+        → refusal (reachablePicks rings edition (afterPly b move)) ≡ 0
+    after-reachable three passes =
+        let w = board in
+        reachable-passes rings edition (afterPly b move) (after-accepted three)
+        (reachable-next rings edition (w .rings-high) b (w .values) (w .points) (w .counted .opponent-high) passes (afterPly b move)
+        (of-successor (removable edition) rings b move (member-is move (moves (removable edition) rings b) legal)))
