@@ -234,3 +234,22 @@ fn refusals_are_told() {
     assert_eq!(Refused(9).to_string(), "refused 9: mover blocked");
     assert_eq!(Refused(20).to_string(), "refused 20: edition not 1 or 2");
 }
+
+#[test]
+fn refuses_unreachable_positions() {
+    let (mut board, mut list, mut frame) = ([0; 24], [0; MOVES_MAX], [0; FRAME_MAX]);
+    board[..3].fill(1);
+    board[3..12].fill(2);
+    let tablebase = filled(1);
+    for k in [2, 9] {
+        assert_eq!(lookup(3, 1, &board, k, &tablebase), Err(Refused(15)));
+        assert_eq!(best_move(3, 1, &board, k, &tablebase), Err(Refused(15)));
+    }
+    assert_eq!(lookup(3, 2, &board, 9, &tablebase), Err(Refused(6)));
+    assert_eq!(best_move(3, 2, &board, 2, &tablebase), Err(Refused(11)));
+    assert_eq!(rank(3, &board), Ok(219));
+    assert_eq!(moves(3, 1, &board, &mut list), Ok(36));
+    assert_eq!(write_frame(3, &board, &mut frame), Ok(14));
+    assert_eq!(&frame, b"0395aaaa000000");
+    assert!(read_frame(&frame).is_ok());
+}
