@@ -19,7 +19,8 @@ use Rattle.geometry.proofs.Geometry.{mill-low}
 use Rattle.board.specs.Board.{Values, count, setOf}
 use Rattle.board.proofs.Sides.{value-le, members-count}
 use Rattle.board.proofs.Stores.{has-set}
-use Rattle.rules.specs.Ply.{Rule, holds, holding, inMill, destinations, slide, unshielded, ifAllShielded, removable, noRemoval, removals, moves, remove, exchange, afterPly, successors}
+use Rattle.rules.specs.Ply.{Rule, holds, holding, inMill, destinations, slide, unshielded, ifAllShielded, removable, noRemoval, removals}
+use Rattle.rules.specs.Ply.{moves, remove, exchange, afterPly, successors}
 use Rattle.rules.specs.Unreachable.{hasMill, nineAgainstMill, unreachable}
 use Rattle.rules.proofs.Listed.{Move, Listed, move-of, removals-with, successor-of, TakesOpponent, removable-are, shielded-any}
 use Rattle.rules.proofs.Leads.{Removed, BeforeExchange, removed-of, removed-before, listed-parts, after-parts, remove-none, remove-one, exchange-at}

@@ -19,10 +19,13 @@ Inv-loop stones mills i₀ i = MillsLeft stones i
 abbrev μ-loop : tie.MeasureT-loop
 μ-loop stones mills i₀ i = 16 - i
 
--- the mill looked at is full where it shares three points
+-- the start of the call, seen from where a mill is looked at; the mill is full where it shares three points
+abbrev started : tie.After-share-three Inv-loop μ-loop → tie.Start Inv-loop μ-loop
+started c = c .before .before .before .before .before .before
+
 looked : (c : tie.After-share-three Inv-loop μ-loop)
-    → c .share-three .result ≡ full (c .before .before .before .before .before .before .args .stones) (getD (mills 3) (c .before .before .before .before .loop .i) [])
-looked c = c .share-three .ensures ∙ ap (λ (m : ℕ). eqb (shared (c .before .before .before .before .before .before .args .stones) m) 3) (c .before .mill-set .ensures)
+    → c .share-three .result ≡ full (started c .args .stones) (getD (mills 3) (c .before .before .before .before .loop .i) [])
+looked c = c .share-three .ensures ∙ ap (λ (m : ℕ). eqb (shared (started c .args .stones) m) 3) (c .before .mill-set .ensures)
 
 mill-table-requires : tie.Need-mill-table-requires Inv-loop μ-loop
 mill-table-requires c κs = tt
@@ -40,8 +43,9 @@ returns : tie.Need-returns Inv-loop μ-loop
 returns c =
     let l = c .before in
     let t = l .before .before .before in
-    let s = t .before .before .before in
-    mill-found (s .args .stones) (s .fits .stones .fits) (t .before .loop .i) (omega (arith, t .loop-test .taken)) (t .before .loop .inv) (sym (looked l) ∙ c .if1 .taken)
+    let s = started l in
+    mill-found (s .args .stones) (s .fits .stones .fits) (t .before .loop .i) (omega (arith, t .loop-test .taken)) (t .before .loop .inv)
+    (sym (looked l) ∙ c .if1 .taken)
 
 add-i : tie.Need-add-i Inv-loop μ-loop
 add-i c = search needs
@@ -53,7 +57,7 @@ loop-again : tie.Need-loop-again Inv-loop μ-loop
 loop-again c =
     let l = c .before in
     let t = l .before .before .before in
-    let s = t .before .before .before in
+    let s = started l in
     let i = t .before .loop .i in
     let e : suc i ≡ i + 1 = omega arith in
     subst (MillsLeft (s .args .stones)) e

@@ -86,7 +86,8 @@ mul-points : tie.Need-mul-points
 mul-points c = search needs
 
 -- the board has 24 points, and the part in use is one of it
-in-use : (c : tie.After-board2) → (8 * c .before .before .before .before .before .before .read .given .0 .0 ≤ 24) × (length (c .before .write-board .last .1 .0) ≡ 24)
+in-use : (c : tie.After-board2)
+    → (8 * c .before .before .before .before .before .before .read .given .0 .0 ≤ 24) × (length (c .before .write-board .last .1 .0) ≡ 24)
 in-use c =
     let b = c .before in
     let y = b .before .before .before .before .before in
