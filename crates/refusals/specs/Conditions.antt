@@ -137,7 +137,7 @@ movePicks rings edition b move room = pick wrongMove (moveWrong rings edition b 
 abbrev pub largestPicks : ℕ → ℕ → Bool → ℕ → List Pick
 largestPicks rings k above n = pick wrongLargest (largestWrong k above) ∷ pick wrongTablebase (tablebaseWrong rings k n) ∷ []
 
--- what a call picks for rings, an edition, a board that a game reaches, K and a tablebase of so many entries
+-- what a call picks for rings, an edition, a board that a game must reach, K and a tablebase of so many entries
 abbrev pub tablebasePicks : ℕ → ℕ → List ℕ → ℕ → ℕ → List Pick
 tablebasePicks rings edition b k n = largestPicks rings k (countAbove k (count 1 b) (count 2 b)) n ++ reachablePicks rings edition b
 

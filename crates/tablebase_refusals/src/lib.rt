@@ -67,7 +67,7 @@ fn of_largest(binomials: &[u32; 625], rings: u8, k: u8, above: bool, length: usi
     0
 }
 
-// The first refusal that rings, an edition, a board that a game reaches, K and a tablebase of so many entries meet, or 0.
+// The first refusal that rings, an edition, a board that a game must reach, K and a tablebase of so many entries meet, or 0.
 pub fn of_tablebase(
     binomials: &[u32; 625],
     rings: u8,
