@@ -1,10 +1,11 @@
 -- The test of a position on three rings under edition 1, by its two sets. Assumes nothing.
 use mathlib.Core.Path.{_≡_, refl, sym, ap, ap₂, _∙_}
-use mathlib.Core.Bool.{Bool, true, false, _&&_, _||_}
+use mathlib.Core.Bool.{Bool, true, false, not, _&&_, _||_}
 use mathlib.Core.List.{List}
 use Prim.Native.Nat.{ℕ, _*_}
 use lib.Dec.{eqb}
-use borrow.Author.Tests.{eq-eqb}
+use borrow.Author.Tests.{eq-eqb, not-true}
+use Rattle.lists.proofs.Tests.{and-left, and-right}
 use Rattle.sets.specs.Sets.{has, members}
 use Rattle.board.specs.declared.Position.{Position}
 use Rattle.board.specs.Board.{boardOf, setOf}
@@ -32,6 +33,13 @@ module _ (rings edition : ℕ) (p : Position) (w : Placed rings p) (first : edit
       ap₂ (λ (t u : Bool). t && (u && (nineAgainstMill rings board 1 2 || nineAgainstMill rings board 2 1))) (eq-eqb edition 1 first) (eq-eqb rings 3 three)
       ∙ ap₂ _||_ (side 1 2 (p .mover) (p .opponent) (mover-set (8 * rings) p (w .on)) (opponent-set (8 * rings) p (w .on)))
       (side 2 1 (p .opponent) (p .mover) (opponent-set (8 * rings) p (w .on)) (mover-set (8 * rings) p (w .on)))
+
+  -- without nine stones it passes
+  pub none-nine : (not (eqb (members (p .mover) 32) 9) && not (eqb (members (p .opponent) 32) 9)) ≡ true → false ≡ positionUnreachable rings edition board
+  none-nine e =
+      let m = not-true (eqb (members (p .mover) 32) 9) (and-left _ _ e) in
+      let o = not-true (eqb (members (p .opponent) 32) 9) (and-right (not (eqb (members (p .mover) 32) 9)) _ e) in
+      sym (sides-decide ∙ ap₂ (λ (t u : Bool). (t && hasMill 3 (λ q. has (p .opponent) q)) || (u && hasMill 3 (λ q. has (p .mover) q))) m o)
 
   -- the first side decides where it has nine against a mill, else the second
   pub first-side : nineSet (p .mover) (p .opponent) ≡ true → true ≡ positionUnreachable rings edition board

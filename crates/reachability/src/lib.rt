@@ -1,6 +1,6 @@
 // Positions that no game reaches, on sets: stones are counted first, and mills looked for only against nine.
 ghost use mathlib.Core.Path.{_≡_};
-ghost use mathlib.Core.Bool.{_&&_};
+ghost use mathlib.Core.Bool.{not, _&&_};
 ghost use Prim.Native.Nat.{_*_};
 ghost use lib.Dec.{eqb};
 ghost use Rattle.sets.specs.Sets.{has, members};
@@ -31,6 +31,13 @@ fn has_mill(stones: u32) -> bool
     false
 }
 
+// Whether neither side has nine stones, as in most positions.
+fn none_has_nine(position: Position) -> bool
+    ensures { λ r. ⌜ r ≡ (not (eqb (members (position .mover) 32) 9) && not (eqb (members (position .opponent) 32) 9)) ⌝ }
+{
+    (sets::count(position.mover) != ALL_STONES) & (sets::count(position.opponent) != ALL_STONES)
+}
+
 // Whether a side has nine stones and the other a full mill.
 fn nine_against_mill(side: u32, other: u32) -> bool
     ensures { λ r. ⌜ r ≡ (eqb (members side 32) 9 && hasMill 3 (λ q. has other q)) ⌝ }
@@ -50,6 +57,9 @@ pub fn unreachable(rings: u8, edition: u8, position: Position) -> bool
         return false;
     }
     if rings != 3 {
+        return false;
+    }
+    if none_has_nine(position) {
         return false;
     }
     nine_against_mill(position.mover, position.opponent)
