@@ -9,8 +9,8 @@ use native.Mathlib.Omega.{arith}
 use lib.Dec.{eqb}
 use lib.ListN.{getD, set, length, replicate}
 use lib.Seq.{getD-set-same, getD-set-other}
-use borrow.Author.Tests.{eqb-true, eqb-false, eq-eqb, ne-eqb}
-use Rattle.lists.specs.Lists.{all, any, member, orElse}
+use borrow.Author.Tests.{eqb-true, eqb-false, eq-eqb}
+use Rattle.lists.specs.Lists.{all, member, orElse}
 use Rattle.lists.proofs.Tests.{untrue, clash, and-left, and-right, and-both, or-cases, left-or, right-or, is-member, all-member, member-all, all-same}
 use Rattle.lists.proofs.Tests.{any-member, member-any, any-same, empty-none}
 use Rattle.sets.specs.Sets.{has, members}
@@ -22,9 +22,9 @@ use Rattle.board.proofs.Stores.{has-set}
 use Rattle.rules.specs.Ply.{Rule, holds, holding, inMill, destinations, slide, unshielded, ifAllShielded, removable, noRemoval, removals}
 use Rattle.rules.specs.Ply.{moves, remove, exchange, afterPly, successors}
 use Rattle.rules.specs.Unreachable.{hasMill, nineAgainstMill, unreachable}
-use Rattle.rules.proofs.Listed.{Move, Listed, move-of, removals-with, successor-of, TakesOpponent, removable-are, shielded-any}
+use Rattle.rules.proofs.Listed.{Move, move-of, removals-with, successor-of, TakesOpponent, removable-are, shielded-any}
 use Rattle.rules.proofs.Leads.{Removed, BeforeExchange, removed-of, removed-before, listed-parts, after-parts, remove-none, remove-one, exchange-at}
-use Rattle.rules.proofs.Leads.{exchange-counts, slide-counts, slide-length, slide-to, slide-from, slide-other, slid-opposing}
+use Rattle.rules.proofs.Leads.{exchange-counts, slide-counts, slide-length, slide-from, slide-other, slid-opposing}
 use Rattle.rules.proofs.OnSets.{length-holding}
 use Rattle.rules.proofs.Mills.{in-mill-any}
 

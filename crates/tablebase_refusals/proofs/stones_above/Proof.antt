@@ -1,6 +1,5 @@
 -- `tablebase_refusals::stones_above` meets its contract: the members of both sides are counted. Assumes nothing.
 use mathlib.Core.Path.{ap₂, _∙_}
-use Prim.Native.Nat.{ℕ}
 use borrow.Author.Needs.{needs}
 use Rattle.refusals.specs.Conditions.{countAbove}
 use Rattle.tablebase_refusals.proofs.stones_above.Statement.{statement}
