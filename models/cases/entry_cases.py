@@ -118,8 +118,9 @@ def filled_under_2():
 
 def lines():
     tablebase = calls.fill(1, 1, 5, 2000, throughout(0, 1302))[1]
-    yield from (lookup(*case, tablebase) for case in LOOKUPS + UNREACHABLE)
-    yield from (best_move(*case, tablebase) for case in BEST_MOVES + UNREACHABLE)
+    yield from (lookup(*case, tablebase) for case in LOOKUPS)
+    yield from (best_move(*case, tablebase) for case in BEST_MOVES)
+    yield from (call(*case, tablebase) for case in UNREACHABLE for call in (lookup, best_move))
     yield from answers_of_all("answers", 1, tablebase)
     yield from filled_under_2()
     yield from beside_a_void()

@@ -49,6 +49,12 @@ fn best_move(rings: u8, edition: u8, length: usize, digits: u64, k: u8, tablebas
     end();
 }
 
+// The entry of a board, and its best move.
+fn both(rings: u8, edition: u8, length: usize, digits: u64, k: u8, tablebase: &[u16]) {
+    lookup(rings, edition, length, digits, k, tablebase);
+    best_move(rings, edition, length, digits, k, tablebase);
+}
+
 // Document 01's two boards, four against four, five against three, and a draw; K 9 has the same places; two boards whose entries are others under
 // edition 2. Then each refusal but 12, 15 and 20, and the first of two.
 fn lookups(tablebase: &[u16]) {
@@ -86,22 +92,6 @@ fn lookups_by_edition(tablebase: &[u16]) {
     lookup(1, 0, 8, 02122011, 4, tablebase);
 }
 
-// Nine stones against a mill on three rings, of either side, with K 9 and K 2; under edition 2; 4, 20 and 2 before 15. Then nine against three that are no
-// mill, eight against a mill, and nine against a mill on two rings.
-fn lookups_unreachable(tablebase: &[u16]) {
-    lookup(3, 1, 24, 222222222111, 9, tablebase);
-    lookup(3, 1, 24, 222222222111, 2, tablebase);
-    lookup(3, 2, 24, 222222222111, 9, tablebase);
-    lookup(3, 1, 24, 111111111222, 9, tablebase);
-    lookup(3, 2, 24, 111111111222, 2, tablebase);
-    lookup(3, 1, 24, 2222222221111111111, 9, tablebase);
-    lookup(3, 3, 24, 222222222111, 9, tablebase);
-    lookup(3, 1, 23, 222222222111, 9, tablebase);
-    lookup(3, 1, 24, 2222222221011, 9, tablebase);
-    lookup(3, 1, 24, 22222222111, 9, tablebase);
-    lookup(2, 1, 16, 222222222111, 9, tablebase);
-}
-
 // Document 01's two boards; the last listed of three wins, a draw rather than a loss, a capture before a lower number of equal worth; a
 // blocked mover; two boards whose entries are others under edition 2. Then each refusal but 12, 15 and 20, and the first of two.
 fn best_moves(tablebase: &[u16]) {
@@ -134,19 +124,20 @@ fn best_moves_by_edition(tablebase: &[u16]) {
     best_move(1, 3, 8, 11112222, 5, tablebase);
 }
 
-// As `lookups_unreachable`.
-fn best_moves_unreachable(tablebase: &[u16]) {
-    best_move(3, 1, 24, 222222222111, 9, tablebase);
-    best_move(3, 1, 24, 222222222111, 2, tablebase);
-    best_move(3, 2, 24, 222222222111, 9, tablebase);
-    best_move(3, 1, 24, 111111111222, 9, tablebase);
-    best_move(3, 2, 24, 111111111222, 2, tablebase);
-    best_move(3, 1, 24, 2222222221111111111, 9, tablebase);
-    best_move(3, 3, 24, 222222222111, 9, tablebase);
-    best_move(3, 1, 23, 222222222111, 9, tablebase);
-    best_move(3, 1, 24, 2222222221011, 9, tablebase);
-    best_move(3, 1, 24, 22222222111, 9, tablebase);
-    best_move(2, 1, 16, 222222222111, 9, tablebase);
+// Nine stones against a mill on three rings, of either side, with K 9 and K 2; under edition 2; 4, 20 and 2 before 15. Then nine against three that are no
+// mill, eight against a mill, and nine against a mill on two rings.
+fn unreachable(tablebase: &[u16]) {
+    both(3, 1, 24, 222222222111, 9, tablebase);
+    both(3, 1, 24, 222222222111, 2, tablebase);
+    both(3, 2, 24, 222222222111, 9, tablebase);
+    both(3, 1, 24, 111111111222, 9, tablebase);
+    both(3, 2, 24, 111111111222, 2, tablebase);
+    both(3, 1, 24, 2222222221111111111, 9, tablebase);
+    both(3, 3, 24, 222222222111, 9, tablebase);
+    both(3, 1, 23, 222222222111, 9, tablebase);
+    both(3, 1, 24, 2222222221011, 9, tablebase);
+    both(3, 1, 24, 22222222111, 9, tablebase);
+    both(2, 1, 16, 222222222111, 9, tablebase);
 }
 
 fn entry_of(answer: Looked) -> u64 {
@@ -266,10 +257,9 @@ fn filled_under_1() {
     morris::fill(1, 1, 5, 2000, &mut tablebase);
     lookups(&tablebase);
     lookups_by_edition(&tablebase);
-    lookups_unreachable(&tablebase);
     best_moves(&tablebase);
     best_moves_by_edition(&tablebase);
-    best_moves_unreachable(&tablebase);
+    unreachable(&tablebase);
     tables(b"answers", 1, &tablebase);
 }
 

@@ -10,13 +10,17 @@ use Rattle.refusals.specs.Refusals.{refusal}
 use Rattle.refusals.specs.Conditions.{readPicks}
 use Rattle.refusals.proofs.FrameConditions.{characters-refused}
 use Rattle.answers.specs.Answers.{accepted, refused}
-use Rattle.answers.proofs.Answering.{answer-refused, accepted-values}
+use Rattle.answers.proofs.Answering.{answer-refused, accepted-values, refused-number}
 use Rattle.frame_calls.specs.ReadFrameCall.{framePosition, readFrameCall}
 
--- a frame that is read passes, and gives its position; one of wrong characters meets 14
+-- a frame that is read passes, and gives its position; one that is refused meets that refusal; one of wrong characters meets 14
 pub frame-given : (f vs : List ℕ) → accepted vs ≡ readFrameCall f → (refusal (readPicks f) ≡ 0) × (vs ≡ framePosition f)
 unfolding readFrameCall
 frame-given f vs e = accepted-values vs (framePosition f) (refusal (readPicks f)) e
+
+pub frame-refused : (f : List ℕ) (n : ℕ) → refused n ≡ readFrameCall f → (n ≡ refusal (readPicks f)) × (n ≡ 0 → ⊥)
+unfolding readFrameCall
+frame-refused f n e = refused-number n (refusal (readPicks f)) (framePosition f) e
 
 pub frame-turned : (f : List ℕ) → frameWrong f ≡ true → readFrameCall f ≡ refused 14
 unfolding readFrameCall

@@ -101,6 +101,11 @@ module _ {A : Type 0} where
   orElse-first [] r m = absurd (List·Memᴰ·not-nil m)
   orElse-first (y ∷ ys) r m = m
 
+  -- where the first has a member, all are the first's
+  pub orElse-only : (l r : List A) {x y : A} → List·Memᴰ x l → List·Memᴰ y (orElse l r) → List·Memᴰ y l
+  orElse-only [] r m k = absurd (List·Memᴰ·not-nil m)
+  orElse-only (z ∷ zs) r m k = k
+
   pub orElse-second : (l r : List A) {x : A} → ((y : A) → List·Memᴰ y l → ⊥) → List·Memᴰ x r → List·Memᴰ x (orElse l r)
   orElse-second [] r none m = m
   orElse-second (y ∷ ys) r none m = absurd (none y (List·Memᴰ·head refl))

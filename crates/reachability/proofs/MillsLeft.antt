@@ -12,6 +12,7 @@ use Rattle.sets.specs.Sets.{has}
 use Rattle.geometry.specs.Geometry.{mills}
 use Rattle.geometry.proofs.Geometry.{all-mills, mill-proper}
 use Rattle.rules.specs.Unreachable.{hasMill}
+use Rattle.rules.proofs.Unreachable.{has-mill-any}
 use Rattle.plies.proofs.FullMills.{full, full-three}
 
 module _ (s : ℕ) where
@@ -24,8 +25,7 @@ module _ (s : ℕ) where
     pub decides : any (λ mill. all (λ q. has s q) mill) (drop i (mills 3)) ≡ hasMill 3 (λ q. has s q)
 
   pub mills-all : MillsLeft 0
-  unfolding hasMill
-  mills-all = record { low = omega arith; decides = refl }
+  mills-all = record { low = omega arith; decides = sym (has-mill-any 3 (λ q. has s q)) }
 
   pub mills-none : (i : ℕ) → 16 ≤ i → MillsLeft i → false ≡ hasMill 3 (λ q. has s q)
   mills-none i high w =

@@ -11,8 +11,8 @@ use Rattle.board.specs.declared.Position.{Position}
 use Rattle.board.specs.Board.{boardOf, setOf}
 use Rattle.board.proofs.Sides.{length-board}
 use Rattle.board.proofs.OneToOne.{mover-set, opponent-set}
-use Rattle.rules.specs.Unreachable.{hasMill, nineAgainstMill, unreachable}
-use Rattle.rules.proofs.Unreachable.{nine-sets}
+use Rattle.rules.specs.Unreachable.{hasMill, nineAgainstMill}
+use Rattle.rules.proofs.Unreachable.{three-rings, nine-sets}
 use Rattle.plies.specs.Inner.Positions.{Placed}
 use Rattle.refusals.specs.Conditions.{positionUnreachable}
 
@@ -28,9 +28,8 @@ module _ (rings edition : ℕ) (p : Position) (w : Placed rings p) (first : edit
   side v x s t e f = nine-sets rings (w .small) board (length-board (8 * rings) p) v x ∙ rw (e, f, three)
 
   sides-decide : positionUnreachable rings edition board ≡ (nineSet (p .mover) (p .opponent) || nineSet (p .opponent) (p .mover))
-  unfolding unreachable
   sides-decide =
-      ap₂ (λ (t u : Bool). t && (u && (nineAgainstMill rings board 1 2 || nineAgainstMill rings board 2 1))) (eq-eqb edition 1 first) (eq-eqb rings 3 three)
+      ap₂ _&&_ (eq-eqb edition 1 first) (three-rings rings board three)
       ∙ ap₂ _||_ (side 1 2 (p .mover) (p .opponent) (mover-set (8 * rings) p (w .on)) (opponent-set (8 * rings) p (w .on)))
       (side 2 1 (p .opponent) (p .mover) (opponent-set (8 * rings) p (w .on)) (mover-set (8 * rings) p (w .on)))
 

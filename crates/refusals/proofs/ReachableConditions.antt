@@ -43,10 +43,7 @@ module _ (rings edition : ℕ) (b : List ℕ) where
   reached = record { holds = positionUnreachable rings edition b; number = 15 } ∷ []
 
   -- after what the board meets
-  pub reachable-refused : (n : ℕ) → (n ≡ 0 → ⊥) → n ≡ refusal (ruledPicks rings edition b) → n ≡ refusal (reachablePicks rings edition b)
-  reachable-refused n z e = first-kept board reached n z e
-
-  pub reachable-decides : 0 ≡ refusal (ruledPicks rings edition b)
+  reachable-decides : 0 ≡ refusal (ruledPicks rings edition b)
       → refusal (reachablePicks rings edition b) ≡ cond (positionUnreachable rings edition b) 15 0
   reachable-decides e = one-more board (positionUnreachable rings edition b) 15 refl e
 

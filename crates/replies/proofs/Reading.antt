@@ -17,9 +17,8 @@ use Rattle.refusals.proofs.FirstRefusal.{first-kept, one-more}
 use Rattle.refusals.proofs.Conditions.{Accepted, accepted-board}
 use Rattle.refusals.proofs.FrameConditions.{board-accepted}
 use Rattle.answers.specs.Answers.{accepted, refused}
-use Rattle.answers.proofs.Answering.{refused-number}
 use Rattle.frame_calls.specs.ReadFrameCall.{framePosition, readFrameCall}
-use Rattle.frame_calls.proofs.Answered.{frame-given}
+use Rattle.frame_calls.proofs.Answered.{frame-given, frame-refused}
 use Rattle.positions.proofs.Positions.{ShowsBoard, board-shown}
 use Rattle.text.specs.Text.{refusedLine}
 use Rattle.fields.specs.Fields.{deskEdition}
@@ -51,9 +50,8 @@ module _ (tablebase line : List ℕ) where
 
   -- by reading
   pub line-refused : (n : ℕ) → refused n ≡ readFrameCall line → refusedLine n ≡ answerOf tablebase line
-  unfolding readFrameCall
   line-refused n e =
-      let (same, some) = refused-number n (refusal (readPicks line)) (framePosition line) e in
+      let (same, some) = frame-refused line n e in
       refused-line n some
       (first-kept reading (record { holds = positionUnreachable (ringsIn line) deskEdition (boardIn line); number = 15 } ∷ []) n some same)
 

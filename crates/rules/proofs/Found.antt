@@ -16,7 +16,7 @@ use Rattle.board.specs.Board.{Values, count, digit}
 use Rattle.rules.specs.Ply.{Rule, holds, holding, inMill, slide, noRemoval, removals, remove, exchange, successors}
 use Rattle.rules.specs.Predecessors.{moved, origins, unslide, restored, predecessors}
 use Rattle.rules.proofs.Listed.{Move, move-of, holding-is, is-holding, removals-without, successor-of, TakesOpponent}
-use Rattle.rules.proofs.Leads.{other-point, apart, slide-to, slide-from, slide-other, Removed, BeforeExchange, removed-of, removed-before, listed-parts, after-parts, remove-none, remove-one, exchange-at, exchange-counts, exchange-values, slide-counts, slide-length, slide-values, count-set, values-set}
+use Rattle.rules.proofs.Leads.{other-point, apart, slide-to, slide-from, slide-other, Removed, BeforeExchange, removed-of, removed-before, listed-parts, after-parts, remove-none, remove-one, exchange-at, exchange-own, exchange-counts, exchange-values, slide-counts, slide-length, slide-values, count-set, values-set}
 use Rattle.rules.proofs.Mills.{in-mill-same}
 
 -- neighbours of each other
@@ -32,12 +32,6 @@ exchange-twice (zero ∷ b) h = ap (λ (l : List ℕ). 0 ∷ l) (exchange-twice 
 exchange-twice (suc zero ∷ b) h = ap (λ (l : List ℕ). 1 ∷ l) (exchange-twice b (h .1))
 exchange-twice (suc (suc zero) ∷ b) h = ap (λ (l : List ℕ). 2 ∷ l) (exchange-twice b (h .1))
 exchange-twice (suc (suc (suc v)) ∷ b) h = absurd (omega arith)
-
-exchange-own : (v : ℕ) → eqb (exchange v) 2 ≡ eqb v 1
-unfolding exchange
-exchange-own zero = refl
-exchange-own (suc zero) = refl
-exchange-own (suc (suc v)) = sym (ne-eqb (suc (suc v)) 1 (λ e. omega arith))
 
 exchange-of : (b : List ℕ) (p x : ℕ) → getD b p 0 ≡ x → getD (map (λ v. exchange v) b) p 0 ≡ exchange x
 exchange-of b p x e = exchange-at b p ∙ ap (λ y. exchange y) e

@@ -77,6 +77,13 @@ unfolding exchange
 exchange-at b p = List·getD-map (λ v. exchange v) b p 0
 
 -- a slide keeps the points and their values
+-- the other side's stones were one's own
+pub exchange-own : (v : ℕ) → eqb (exchange v) 2 ≡ eqb v 1
+unfolding exchange
+exchange-own zero = refl
+exchange-own (suc zero) = refl
+exchange-own (suc (suc v)) = sym (ne-eqb (suc (suc v)) 1 (λ e. omega arith))
+
 pub slide-length : (b : List ℕ) (from to : ℕ) → length (slide b from to) ≡ length b
 unfolding slide
 slide-length b from to = length-set (set b from 0) to 1 ∙ length-set b from 0

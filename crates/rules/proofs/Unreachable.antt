@@ -10,9 +10,10 @@ use lib.Dec.{eqb}
 use lib.ListN.{getD, set, length, replicate}
 use lib.Seq.{getD-set-same, getD-set-other}
 use borrow.Author.Tests.{eqb-true, eqb-false, eq-eqb}
-use Rattle.lists.specs.Lists.{all, member, orElse}
+use Rattle.lists.specs.Lists.{all, any, member, orElse}
 use Rattle.lists.proofs.Tests.{untrue, clash, and-left, and-right, and-both, or-cases, left-or, right-or, is-member, all-member, member-all, all-same}
-use Rattle.lists.proofs.Tests.{any-member, member-any, any-same, empty-none}
+use Rattle.lists.proofs.Tests.{any-member, member-any, any-same}
+use Rattle.lists.proofs.Members.{getD-member, orElse-only}
 use Rattle.sets.specs.Sets.{has, members}
 use Rattle.geometry.specs.Geometry.{points, follows, inward, adjoin, ringMills, crossMills, mills}
 use Rattle.geometry.proofs.Geometry.{mill-low}
@@ -23,7 +24,7 @@ use Rattle.rules.specs.Ply.{Rule, holds, holding, inMill, destinations, 
 use Rattle.rules.specs.Ply.{moves, remove, exchange, afterPly, successors}
 use Rattle.rules.specs.Unreachable.{hasMill, nineAgainstMill, unreachable}
 use Rattle.rules.proofs.Listed.{Move, move-of, removals-with, successor-of, TakesOpponent, removable-are, shielded-any}
-use Rattle.rules.proofs.Leads.{Removed, BeforeExchange, removed-of, removed-before, listed-parts, after-parts, remove-none, remove-one, exchange-at}
+use Rattle.rules.proofs.Leads.{Removed, BeforeExchange, removed-of, removed-before, listed-parts, after-parts, remove-none, remove-one, exchange-at, exchange-own}
 use Rattle.rules.proofs.Leads.{exchange-counts, slide-counts, slide-length, slide-from, slide-other, slid-opposing}
 use Rattle.rules.proofs.OnSets.{length-holding}
 use Rattle.rules.proofs.Mills.{in-mill-any}
@@ -37,6 +38,11 @@ pub unreachable-cases : (unreachable 3 (1 ∷ 1 ∷ 1 ∷ replicate {A = ℕ} 9 
     × (unreachable 2 (1 ∷ 1 ∷ 1 ∷ replicate {A = ℕ} 9 2 ++ replicate {A = ℕ} 4 0) ≡ false)
 unfolding unreachable nineAgainstMill hasMill ringMills crossMills mills
 unreachable-cases = (refl, refl, refl, refl, refl)
+
+-- some mill is full, by the mills
+pub has-mill-any : (rings : ℕ) (own : ℕ → Bool) → hasMill rings own ≡ any (λ mill. all own mill) (mills rings)
+unfolding hasMill
+has-mill-any rings own = refl
 
 -- a mill whose points all hold v
 pub record Mill (rings : ℕ) (b : List ℕ) (v : ℕ) : Type 0 where
@@ -87,6 +93,11 @@ module _ (rings : ℕ) (b : List ℕ) where
       go (inl h) = left-or x y (is-nine 1 2 h)
       go (inr h) = right-or x y (is-nine 2 1 h)
 
+  -- on three rings the sides decide
+  pub three-rings : rings ≡ 3 → unreachable rings b ≡ (nineAgainstMill rings b 1 2 || nineAgainstMill rings b 2 1)
+  unfolding unreachable
+  three-rings r = ap (λ (t : Bool). t && (nineAgainstMill rings b 1 2 || nineAgainstMill rings b 2 1)) (eq-eqb rings 3 r)
+
   -- on one ring and on two every position passes
   pub fewer-rings : (rings ≡ 3 → ⊥) → unreachable rings b ≡ false
   fewer-rings n = sym (untrue (unreachable rings b) (λ e. n (unreachable-is e .0)))
@@ -123,10 +134,7 @@ exchanged-one (suc zero) e = absurd (omega arith)
 exchanged-one (suc (suc v)) e = omega arith
 
 exchanged-two : (v : ℕ) → exchange v ≡ 2 → v ≡ 1
-unfolding exchange
-exchanged-two zero e = absurd (omega arith)
-exchanged-two (suc zero) e = refl
-exchanged-two (suc (suc v)) e = absurd (omega arith)
+exchanged-two v e = eqb-true v 1 (sym (exchange-own v) ∙ eq-eqb (exchange v) 2 e)
 
 -- what holds a stone after a removal held it before
 remove-kept : (b : List ℕ) (r p v : ℕ) → Removed b r → getD (remove b r) p 0 ≡ suc v → getD b p 0 ≡ suc v
@@ -183,19 +191,10 @@ module _ (rule : Rule) (takes : TakesOpponent rule) (must : MustRemove rule) (ri
     closed-removes some e none =
         let n = slide-counts b from to from-in to-in (m .own) (m .vacant) in
         let l = length-holding rings small slid (slide-length b from to ∙ whole) 2 in
-        let (p, i) = first (holding rings slid 2) (omega (arith, l, n .1)) in
-        let (x, j) = must rings slid p i in
+        let (x, j) = must rings slid (getD (holding rings slid 2) 0 0) (getD-member (holding rings slid 2) 0 0 (omega (arith, l, n .1))) in
         let k = subst (λ (l : List ℕ). List·Memᴰ r l) (removals-with rule rings slid to e) (m .removal) in
-        let t = takes rings slid r (chosen (rule rings slid) j k) in
+        let t = takes rings slid r (orElse-only (rule rings slid) (noRemoval ∷ []) j k) in
         omega (arith, t .0)
-      where
-        first : (l : List ℕ) → 1 ≤ length l → (p : ℕ) × List·Memᴰ p l
-        first [] h = absurd (omega arith)
-        first (x ∷ l) h = (x, List·Memᴰ·head refl)
-
-        chosen : (l : List ℕ) {x : ℕ} → List·Memᴰ x l → List·Memᴰ r (orElse l (noRemoval ∷ [])) → List·Memᴰ r l
-        chosen [] i j = absurd (empty-none [] refl i)
-        chosen (y ∷ l) i j = j
 
     -- a mill of the side that moved, where no stone was removed: the moved stone is not in it, so it stood there before
     own-mill : r ≡ noRemoval → 1 ≤ count 2 b → Mill rings next 2 → Mill rings b 1
