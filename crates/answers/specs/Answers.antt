@@ -11,6 +11,7 @@ use Rattle.answers.specs.declared.Represented.{Represented}
 use Rattle.answers.specs.declared.Looked.{Looked}
 use Rattle.answers.specs.declared.Chosen.{Chosen}
 use Rattle.answers.specs.declared.Solved.{Solved}
+use Rattle.answers.specs.declared.Checked.{Checked}
 use Rattle.answers.specs.declared.Frame.{Frame}
 use Rattle.answers.specs.declared.Framed.{Framed}
 use Rattle.answers.specs.declared.Ranked.the-variants as Ranked
@@ -21,6 +22,7 @@ use Rattle.answers.specs.declared.Represented.the-variants as Represente
 use Rattle.answers.specs.declared.Looked.the-variants as Looked
 use Rattle.answers.specs.declared.Chosen.the-variants as Chosen
 use Rattle.answers.specs.declared.Solved.the-variants as Solved
+use Rattle.answers.specs.declared.Checked.the-variants as Checked
 use Rattle.answers.specs.declared.Frame.the-variants as Frame
 use Rattle.answers.specs.declared.Framed.the-variants as Framed
 
@@ -87,6 +89,12 @@ chosen (Chosen.Refused n) = refused n
 abbrev pub solved : Solved → Answer
 solved Solved.Filled = accepted []
 solved (Solved.Refused n) = refused n
+
+-- whether a tablebase passed, 1 or 0, and the first index that fails, 0 where it passed,
+abbrev pub checked : Checked → Answer
+checked Checked.Passed = accepted (1 ∷ 0 ∷ [])
+checked (Checked.Fails index) = accepted (0 ∷ index ∷ [])
+checked (Checked.Refused n) = refused n
 
 -- the position of a frame: its rings, the points of the side to move, those of the other side,
 abbrev pub frameRead : Frame → Answer

@@ -48,6 +48,13 @@ pub enum Solved {
     Refused(u8),
 }
 
+// A tablebase passed the check, or the first index that fails, or the number of a refusal.
+pub enum Checked {
+    Passed,
+    Fails(u64),
+    Refused(u8),
+}
+
 // A frame taken apart: a position as two point sets, or the number of a refusal.
 pub enum Frame {
     Position {

@@ -61,6 +61,32 @@ module _ (e : ℕ) (small : e < 65536) where
       cases k (even o) = omega (arith, eqb-true, eq-eqb)
       cases k (no-depth h) = omega (arith, eqb-true, eq-eqb)
 
+  -- lost in fewer plies than one less than an odd level
+  pub asks-quicker : (level : ℕ) → level % 2 ≡ 1 → level < voidEntry → asked 65536 (65536 + level - 1) e ≡ (isLost e && ltb (suc e) level)
+  asks-quicker level odd l = agree 65536 (65536 + level - 1) e (isLost e && ltb (suc e) level) cases
+    where
+      said : (isLost e && ltb (suc e) level) ≡ true → (e % 2 ≡ 0) × (e < voidEntry) × (suc e < level)
+      said t =
+          let (o, h) = lost-is (and-left (isLost e) _ t) in
+          (o, h, ltb-true (suc e) level (and-right (isLost e) _ t))
+
+      cases : (k : ℕ) → Keyed e k → Agrees 65536 (65536 + level - 1) k (isLost e && ltb (suc e) level)
+      cases k (depth-odd o h) = record { passes = λ a b. absurd (omega arith); asked-for = λ t. absurd (omega (arith, said t)) }
+      cases k (even o) = record {
+        passes = λ a b. and-both _ _ (lost-of o (omega arith)) (lt-ltb (suc e) level (omega arith));
+        asked-for = λ t. omega (arith, said t);
+      }
+      cases k (no-depth h) = record { passes = λ a b. absurd (omega arith); asked-for = λ t. absurd (omega (arith, said t)) }
+
+  -- won in one ply less than an even level
+  pub asks-slowest : (level : ℕ) → level % 2 ≡ 0 → 0 < level → level < voidEntry → asked (level - 1) level e ≡ eqb (suc e) level
+  asks-slowest level even-level some l = agree (level - 1) level e (eqb (suc e) level) cases
+    where
+      cases : (k : ℕ) → Keyed e k → Agrees (level - 1) level k (eqb (suc e) level)
+      cases k (depth-odd o h) = omega (arith, eqb-true, eq-eqb)
+      cases k (even o) = omega (arith, eqb-true, eq-eqb)
+      cases k (no-depth h) = omega (arith, eqb-true, eq-eqb)
+
   -- not won in fewer plies than a level
   pub asks-not-below : (level : ℕ) → level ≤ voidEntry → asked level 131072 e ≡ not (eqb (e % 2) 1 && ltb e level)
   asks-not-below level l = agree level 131072 e (not (eqb (e % 2) 1 && ltb e level)) cases

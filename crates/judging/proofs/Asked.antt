@@ -12,7 +12,7 @@ use Rattle.game.specs.Judgement.{isLost, isWon}
 use Rattle.probing.specs.Inner.Probes.{probe}
 use Rattle.probing.proofs.Reading.{probe-small}
 use Rattle.asking.specs.Inner.Keys.{asked}
-use Rattle.asking.proofs.Keys.{asks-before, asks-not-below, asks-not-won, asks-lost, asks-void}
+use Rattle.asking.proofs.Keys.{asks-before, asks-quicker, asks-slowest, asks-not-below, asks-not-won, asks-lost, asks-void}
 
 module _ (tablebase : List ℕ) (fits : (i : ℕ) → getD tablebase i 0 < 65536) (same fewer o : ℕ) (next : List (List ℕ)) where
   abbrev entry : List ℕ → ℕ
@@ -25,6 +25,16 @@ module _ (tablebase : List ℕ) (fits : (i : ℕ) → getD tablebase i 0 < 65536
   pub some-before : (level : ℕ) → level % 2 ≡ 1 → level < voidEntry
       → any (λ b. asked (65536 + level - 1) (65536 + level) (entry b)) next ≡ any (λ b. eqb (suc (entry b)) level) next
   some-before level odd l = any-same _ _ next (λ b m. asks-before (entry b) (small b) level odd l)
+
+  -- one is lost in fewer plies than that
+  pub some-quicker : (level : ℕ) → level % 2 ≡ 1 → level < voidEntry
+      → any (λ b. asked 65536 (65536 + level - 1) (entry b)) next ≡ any (λ b. isLost (entry b) && ltb (suc (entry b)) level) next
+  some-quicker level odd l = any-same _ _ next (λ b m. asks-quicker (entry b) (small b) level odd l)
+
+  -- one is won in one ply less than an even level
+  pub some-slowest : (level : ℕ) → level % 2 ≡ 0 → 0 < level → level < voidEntry
+      → any (λ b. asked (level - 1) level (entry b)) next ≡ any (λ b. eqb (suc (entry b)) level) next
+  some-slowest level even some l = any-same _ _ next (λ b m. asks-slowest (entry b) (small b) level even some l)
 
   -- all are won in fewer plies than a level
   pub all-below : (level : ℕ) → level ≤ voidEntry

@@ -95,6 +95,10 @@ module _ (points k : ℕ) where
       let e : 3 + (m - 3) ≡ m = omega arith in
       subst (λ (x : ℕ). rowsPart points k (m - 3) + rowPart points x (k - 2) ≤ rowsPart points k j) e (in-rows (m - 3) j h)
 
+  -- each row has its entries within the tablebase
+  pub row-within : (m : ℕ) → 3 ≤ m → m ≤ k → entries points (row k m) ≤ tablebaseLength points k
+  row-within m l h = omega (arith, length-is points k, rows-room m (k - 2) l (omega arith))
+
   -- each table lies within the tablebase, an empty one too
   pub end-within : {m o : ℕ} → InRange k m o → end points k m o ≤ tablebaseLength points k
   unfolding end

@@ -2,28 +2,18 @@
 -- Assumes nothing.
 use mathlib.Core.Path.{_≡_, refl, sym, ap, ap₂, _∙_}
 use mathlib.Core.Bool.{Bool, true, false}
-use mathlib.Core.List.{List, [], _∷_, _++_, map, map-append, append-nil, append-assoc}
+use mathlib.Core.List.{List, [], _∷_, _++_, map, map-append, append-nil}
 use Prim.Native.Nat.{ℕ, zero, suc, _+_, _-_, _≤_, _<_}
-use native.Mathlib.Nat.{add-zero, zero-add, add-suc, suc-add}
+use native.Mathlib.Nat.{suc-add}
 use native.Mathlib.Omega.{arith}
 use lib.Dec.{leb, ltb}
 use borrow.Author.Tests.{leb-false, lt-ltb, le-ltb, eq-eqb, ne-eqb}
 use Rattle.lists.specs.Lists.{range, keep, each}
+use Rattle.lists.proofs.Joined.{range-split, each-append}
 use Rattle.lists.proofs.Keep.{keep-yes, keep-no, keep-append}
 use Rattle.sizes.specs.Size.{size}
 use Rattle.layout.specs.Layout.{Table, table, stones, row, tables, entries, earlier, start, tablebaseLength}
 use Rattle.sizes.proofs.Multinomials.{size-over}
-
--- lists of numbers and of tables, in two parts
-range-split : (a d n : ℕ) → range a (d + n) ≡ range a d ++ range (a + d) n
-range-split a zero n = ap₂ range (sym (add-zero a)) (zero-add n)
-range-split a (suc d) n =
-    let e : suc a + d ≡ a + suc d = suc-add a d ∙ sym (add-suc a d) in
-    ap (range a) (suc-add d n) ∙ ap (λ (l : List ℕ). a ∷ l) (range-split (suc a) d n ∙ ap (λ (k : ℕ). range (suc a) d ++ range k n) e)
-
-each-append : {A B : Type 0} (f : A → List B) (xs ys : List A) → each f (xs ++ ys) ≡ each f xs ++ each f ys
-each-append f [] ys = refl
-each-append f (x ∷ xs) ys = ap (λ (l : List _). f x ++ l) (each-append f xs ys) ∙ sym (append-assoc (f x) (each f xs) (each f ys))
 
 module _ (points : ℕ) where
   entries-append : (xs ys : List Table) → entries points (xs ++ ys) ≡ entries points xs + entries points ys

@@ -1,4 +1,5 @@
 pub mod Dealing
+pub mod Joined
 pub mod Keep
 pub mod Lengths
 pub mod Members

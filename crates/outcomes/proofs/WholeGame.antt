@@ -15,8 +15,9 @@ use Rattle.layout.proofs.OneToOne.{InRange, table-listed}
 use Rattle.rules.specs.Ply.{Rule, successors}
 use Rattle.rules.proofs.Leads.{Reached, successor-reached}
 use Rattle.rules.proofs.Listed.{TakesOpponent}
-use Rattle.game.specs.Game.{live, ends, voidEntry}
+use Rattle.game.specs.Game.{live, ends, drawn, voidEntry}
 use Rattle.game.proofs.Depths.{ends-depth}
+use Rattle.game.proofs.Tables.{Ground, Seeded}
 use Rattle.outcomes.specs.Places.{entryAt, successorEntry, isVoid, successorVoid}
 use Rattle.outcomes.specs.Whole.{wholeSeed, TrueEntry}
 use Rattle.outcomes.specs.Filled.{AllTables}
@@ -55,6 +56,39 @@ pub whole-closed : (rule : Rule) → TakesOpponent rule → (rings k : ℕ) → 
     → (c : List ℕ) → List·Memᴰ c (successors rule rings b)
     → Reached rings k c
 whole-closed rule takes rings k small b w e = successor-reached rule takes rings k small b w (live-three b e)
+
+-- those boards are closed under plies, and the given endings on them have their entries in every tablebase
+module _ (rule : Rule) (takes : TakesOpponent rule) (rings k : ℕ) where
+  -- what is given is a loss in 0
+  ends-zero : (b : List ℕ) {d : ℕ} → wholeSeed b ≡ ends d → (count 1 b < 3) × (d ≡ 0)
+  ends-zero b {d} e = ⊎-elim (λ h. (h, same (sym e ∙ whole-two b h))) (λ h. clash (sym (whole-live b h) ∙ e)) (two-or-three b)
+    where
+      same : ends d ≡ ends 0 → d ≡ 0
+      same z = cc
+
+      clash : live ≡ ends d → (count 1 b < 3) × (d ≡ 0)
+      clash z = let f : _≡_ {A = ℕ} 0 1 = cc in absurd (omega arith)
+
+  never-drawn : {C : Type 0} (b : List ℕ) → wholeSeed b ≡ drawn → C
+  never-drawn {C} b e = ⊎-elim (λ h. two (sym (whole-two b h) ∙ e)) (λ h. three (sym (whole-live b h) ∙ e)) (two-or-three b)
+    where
+      two : ends 0 ≡ drawn → C
+      two z = let f : _≡_ {A = ℕ} 0 1 = cc in absurd (omega arith)
+
+      three : live ≡ drawn → C
+      three z = let f : _≡_ {A = ℕ} 0 1 = cc in absurd (omega arith)
+
+  pub whole-ground : rings ≤ 3 → Ground (successors rule rings) (λ b. wholeSeed b) (Reached rings k)
+  whole-ground small = record {
+    closed = λ b w e c m. whole-closed rule takes rings k small b w e c m;
+    given-low = λ b w e. omega (arith, ends-zero b e .1);
+  }
+
+  pub whole-seeded : (tablebase : List ℕ) → Seeded (successors rule rings) (λ b. wholeSeed b) (Reached rings k) (λ b. successorEntry rings k tablebase b)
+  whole-seeded tablebase = record {
+    at-end = λ b w e. let (h, z) = ends-zero b e in entry-two rings k tablebase b h ∙ sym z;
+    at-draw = λ b w e. never-drawn b e;
+  }
 
 -- a board of a table that holds true entries
 pub table-true : (rule : Rule) → (rings k : ℕ) (T : ℕ → ℕ → Type 0) (tablebase : List ℕ) → TrueEntries rule rings k T tablebase → (b : List ℕ)

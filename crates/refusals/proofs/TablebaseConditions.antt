@@ -18,7 +18,7 @@ use Rattle.outcomes.proofs.Boards.{InTables}
 use Rattle.refusals.specs.Refusals.{Pick, Picked, refusalTable, pickedRows, refusal}
 use Rattle.refusals.specs.Conditions.{editionWrong, positionUnreachable, countAbove, largestWrong, tablebaseWrong, largestLimit, limitWrong, moverBlocked}
 use Rattle.refusals.specs.Conditions.{editionPicks, reachablePicks, stonesPicks, largestPicks, tablebasePicks, lookupPicks, bestMovePicks}
-use Rattle.refusals.specs.Conditions.{limitPicks, fillPicks, tablesPicks, pairPicks}
+use Rattle.refusals.specs.Conditions.{checkPicks, limitPicks, fillPicks, tablesPicks, pairPicks}
 use Rattle.refusals.proofs.FirstRefusal.{passes, passed, first-kept, first-after, both-passed, first-cons, one-more}
 use Rattle.refusals.proofs.EditionConditions.{RingsFirst, edition-refused, edition-decides}
 use Rattle.refusals.proofs.Conditions.{RightCounts, Accepted, rings-right, counts-right, ruled-board, ruled-passes}
@@ -124,6 +124,24 @@ entry-passes rings edition b k n d u a s =
     first-after (pickedRows refusalTable (reachablePicks rings edition b)) (pickedRows refusalTable (largestPicks rings k (countAbove k m o) n)) refl
     (sym (reachable-passes rings edition b (sym (ruled-passes rings edition b d board)) u))
     ∙ sym (passes (pickedRows refusalTable (largestPicks rings k (countAbove k m o) n)) (right, (exact, tt)))
+
+-- an accepted tablebase to check
+pub record AcceptedCheck (rings edition k n : ℕ) : Type 0 where
+  pub edition-accepted : editionWrong edition ≡ false
+  pub tablebase : AcceptedTablebase rings k n
+
+pub accepted-check : (rings edition k n : ℕ) → refusal (checkPicks rings edition k n) ≡ 0 → AcceptedCheck rings edition k n
+accepted-check rings edition k n e =
+    let p = passed (pickedRows refusalTable (checkPicks rings edition k n)) refl e in
+    record {
+      edition-accepted = p .1 .0;
+      tablebase = tablebase-right rings k false n (rings-right rings (p .0)) (largest-right k false (p .1 .1 .0)) (p .1 .1 .1 .0);
+    }
+
+-- a tablebase that is accepted to fill is accepted to check
+pub fill-check : (rings edition k limit n : ℕ) → refusal (fillPicks rings edition k limit n) ≡ 0 → refusal (checkPicks rings edition k n) ≡ 0
+fill-check rings edition k limit n e =
+    both-passed (pickedRows refusalTable (checkPicks rings edition k n)) (record { holds = limitWrong limit; number = 10 } ∷ []) refl e .0
 
 -- an accepted tablebase to fill
 pub record AcceptedFill (rings edition k limit n : ℕ) : Type 0 where

@@ -152,6 +152,10 @@ bestMovePicks rings edition b k tablebase =
     ∷ pick voidRead (successorVoid (removable edition) rings k tablebase b)
     ∷ tablebasePicks rings edition b k (length tablebase)
 
+-- what a call picks to check a tablebase: no count is given
+abbrev pub checkPicks : ℕ → ℕ → ℕ → ℕ → List Pick
+checkPicks rings edition k n = largestPicks rings k false n ++ editionPicks rings edition
+
 -- what a call picks for K, a limit and a tablebase of so many entries to fill, by whether a count is above K
 abbrev pub limitPicks : ℕ → ℕ → Bool → ℕ → ℕ → List Pick
 limitPicks rings k above limit n = pick wrongLimit (limitWrong limit) ∷ largestPicks rings k above n

@@ -1,11 +1,11 @@
-// The first refusal that a tablebase meets, with a board or to be filled.
+// The first refusal that a tablebase meets, with a board, to be checked or to be filled.
 ghost use mathlib.Core.Path.{_≡_};
 ghost use Prim.Native.Nat.{_≤_};
 ghost use Rattle.sets.specs.Sets.{members};
 ghost use Rattle.sizes.specs.Inner.Binomial.{BinomialTable};
 ghost use Rattle.refusals.specs.Refusals.{refusal};
 ghost use Rattle.refusals.specs.Conditions.{countAbove, largestWrong, tablebaseWrong, limitWrong};
-ghost use Rattle.refusals.specs.Conditions.{largestPicks, tablebasePicks, limitPicks, fillPicks, tablesPicks};
+ghost use Rattle.refusals.specs.Conditions.{largestPicks, tablebasePicks, checkPicks, limitPicks, fillPicks, tablesPicks};
 use board::Position;
 
 // The highest limit, in plies.
@@ -88,6 +88,18 @@ pub fn of_tablebase(
         return refusals::UNREACHABLE;
     }
     of_largest(binomials, rings, k, stones_above(k, position), length)
+}
+
+// The first refusal that a call to check a tablebase meets, or 0.
+pub fn of_check(binomials: &[u32; 625], rings: u8, edition: u8, k: u8, length: usize) -> u8
+    requires { ⌜ BinomialTable (now binomials) ⌝ }
+    ensures { λ r. ⌜ r ≡ refusal (checkPicks rings edition k length) ⌝ }
+{
+    let refusal = board_refusals::of_edition(rings, edition);
+    if refusal != 0 {
+        return refusal;
+    }
+    of_largest(binomials, rings, k, false, length)
 }
 
 // The first refusal that K, a limit and a tablebase of so many entries to fill meet, or 0.

@@ -1,0 +1,89 @@
+-- The boards of a tablebase in order: each of its boards is there, and stands at the index of its entry. Assumes nothing.
+use mathlib.Core.Path.{_≡_, refl, sym, ap, ap₂, _∙_}
+use mathlib.Core.Bool.{Bool, true, false}
+use mathlib.Core.List.{List, [], _∷_, _++_, map, map-append, append-assoc, List·Memᴰ}
+use Prim.Native.Nat.{ℕ, zero, suc, _+_, _-_, _*_, _≤_, _<_}
+use native.Mathlib.Omega.{arith}
+use lib.Dec.{leb}
+use lib.ListN.{length, length-append}
+use borrow.Author.Tests.{leb-true, leb-false}
+use Rattle.lists.specs.Lists.{range, keep, each}
+use Rattle.lists.proofs.Keep.{keep-yes, keep-no}
+use Rattle.lists.proofs.Members.{each-member, member-each, map-member, member-map, range-member, member-range}
+use Rattle.sizes.specs.Size.{size}
+use Rattle.sizes.proofs.Multinomials.{size-over}
+use Rattle.ranking.specs.Unrank.{unrank}
+use Rattle.layout.specs.Layout.{Table, table, stones, row, tables, entries, tablebaseLength}
+use Rattle.layout.proofs.OneToOne.{in-range, listed-table}
+use Rattle.outcomes.specs.Filled.{AllTables}
+use Rattle.outcomes.proofs.Boards.{InTables}
+use Rattle.outcomes.proofs.Ranked.{unrank-stands}
+use Rattle.certificate.specs.Certificate.{boardsOf, boards}
+
+-- a board of the tablebase is among them, and they are boards of the tablebase
+module _ (rings k : ℕ) where
+  pub board-listed : (x y r : ℕ) → AllTables rings k x y → r < size (8 * rings) x y → List·Memᴰ (unrank (8 * rings) x y r) (boards (8 * rings) k)
+  unfolding boards
+  board-listed x y r t h =
+      member-each (λ u. boardsOf (8 * rings) u) (tables (8 * rings) k) (table x y) t
+      (member-map (λ i. unrank (8 * rings) x y i) (range 0 (size (8 * rings) x y)) (member-range (size (8 * rings) x y) 0 r (omega arith) (omega arith)))
+
+  pub listed-board : (b : List ℕ) → List·Memᴰ b (boards (8 * rings) k) → InTables rings k b
+  unfolding boards
+  listed-board b m =
+      let (t, i, j) = each-member (λ u. boardsOf (8 * rings) u) (tables (8 * rings) k) m in
+      let (r, l, e) = map-member (λ i. unrank (8 * rings) (t .mover) (t .opponent) i) (range 0 (size (8 * rings) (t .mover) (t .opponent))) j in
+      rw e (unrank-stands rings k (t .mover) (t .opponent) r (in-range (listed-table (8 * rings) k (t .mover) (t .opponent) i))
+      (omega (arith, range-member (size (8 * rings) (t .mover) (t .opponent)) 0 l)))
+
+length-map : {A B : Type 0} (f : A → B) (l : List A) → length (map f l) ≡ length l
+length-map f [] = refl
+length-map f (x ∷ l) = ap suc (length-map f l)
+
+length-range : (a n : ℕ) → length (range a n) ≡ n
+length-range a zero = refl
+length-range a (suc n) = ap suc (length-range (suc a) n)
+
+module _ (points : ℕ) where
+  abbrev boards-of : List Table → List (List ℕ)
+  boards-of ts = each (λ t. boardsOf points t) ts
+
+  -- a board for each entry
+  pub boards-length : (ts : List Table) → length (boards-of ts) ≡ entries points ts
+  boards-length [] = refl
+  boards-length (t ∷ ts) =
+      let n = size points (t .mover) (t .opponent) in
+      length-append (boardsOf points t) (boards-of ts)
+      ∙ ap₂ _+_ (length-map (λ r. unrank points (t .mover) (t .opponent) r) (range 0 n) ∙ length-range 0 n) (boards-length ts)
+
+  abbrev fits : Table → Bool
+  fits t = leb (t .mover + t .opponent) points
+
+  -- tables with more stones than points have none
+  boards-fit : (ts : List Table) → boards-of (keep fits ts) ≡ boards-of ts
+  boards-fit [] = refl
+  boards-fit (t ∷ ts) = go (fits t) refl (boards-fit ts)
+    where
+      go : (b : Bool) → fits t ≡ b → boards-of (keep fits ts) ≡ boards-of ts → boards-of (keep fits (t ∷ ts)) ≡ boards-of (t ∷ ts)
+      go true e r = ap boards-of (keep-yes fits t ts e) ∙ ap (λ (l : List (List ℕ)). boardsOf points t ++ l) r
+      go false e r = ap boards-of (keep-no fits t ts e) ∙ r ∙ sym (ap (λ (n : ℕ). map (λ i. unrank points (t .mover) (t .opponent) i) (range 0 n) ++ boards-of ts)
+          (size-over points (t .mover) (t .opponent) (leb-false (t .mover + t .opponent) points e)))
+
+  each-append : (xs ys : List Table) → boards-of (xs ++ ys) ≡ boards-of xs ++ boards-of ys
+  each-append [] ys = refl
+  each-append (t ∷ xs) ys = ap (λ (l : List (List ℕ)). boardsOf points t ++ l) (each-append xs ys)
+      ∙ sym (append-assoc (boardsOf points t) (boards-of xs) (boards-of ys))
+
+  -- row after row
+  rows-boards : (k : ℕ) (ms : List ℕ) → boards-of (each (λ m. row k m) ms) ≡ each (λ m. boards-of (row k m)) ms
+  rows-boards k [] = refl
+  rows-boards k (m ∷ ms) =
+      each-append (row k m) (each (λ x. row k x) ms) ∙ ap (λ (l : List (List ℕ)). boards-of (row k m) ++ l) (rows-boards k ms)
+
+  pub boards-rows : (k : ℕ) → boards points k ≡ each (λ m. each (λ t. boardsOf points t) (row k m)) (stones k)
+  unfolding boards tables
+  boards-rows k = boards-fit (each (λ m. row k m) (stones k)) ∙ rows-boards k (stones k)
+
+  pub boards-all : (k : ℕ) → length (boards points k) ≡ tablebaseLength points k
+  unfolding boards tablebaseLength
+  boards-all k = boards-length (tables points k)

@@ -1,0 +1,4 @@
+pub mod Judged
+pub mod Questions
+pub mod Passing
+pub mod Boards
