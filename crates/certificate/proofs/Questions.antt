@@ -3,10 +3,10 @@
 use mathlib.Core.Path.{_≡_, refl, sym, ap, _∙_}
 use mathlib.Core.Bool.{Bool, true, false, not, _&&_}
 use mathlib.Core.List.{List, map, List·Memᴰ}
-use Prim.Native.Nat.{ℕ, suc, _<_, _%_}
+use Prim.Native.Nat.{ℕ, zero, suc, _<_, _%_}
 use native.Mathlib.Omega.{arith}
 use lib.Dec.{eqb, ltb}
-use borrow.Author.Tests.{eqb-true, eq-eqb, ltb-true, lt-ltb, not-true}
+use borrow.Author.Tests.{eqb-true, eqb-false, eq-eqb, ltb-true, ltb-false, lt-ltb, not-true}
 use Rattle.lists.specs.Lists.{any, all, isEmpty}
 use Rattle.lists.proofs.Tests.{same-test, clash, untrue, and-left, and-right, and-both, any-member, member-any, none-any, any-none, all-member, member-all, empty-none}
 use Rattle.game.specs.Game.{drawEntry, voidEntry}
@@ -29,7 +29,7 @@ module _ {Pos : Type 0} (next : Pos → List Pos) (t : Pos → ℕ) (p : Pos) wh
       (λ h. ap not (draw-undecided next t p (sym (right-judged next t p drawEntry h .0))))
       (λ h. judged-right next t p drawEntry (sym (undecided-draw next t p (not-true _ h))) (λ z. omega arith))
 
-  pub right-zero : right 0 es ≡ hit next t 0 p
+  right-zero : right 0 es ≡ hit next t 0 p
   right-zero = same-test (right 0 es) (hit next t 0 p) (λ h. hit-zero next t p ∙ none (right-judged next t p 0 h .0) (judged next t p))
       (λ h. judged-right next t p 0 (zero-judged (sym (hit-zero next t p) ∙ h) (judged next t p)) (λ z. omega arith))
     where
@@ -104,3 +104,29 @@ module _ {Pos : Type 0} (next : Pos → List Pos) (t : Pos → ℕ) (p : Pos) wh
             go q m e (win r k v l f) = absurd (omega (arith, lost-is l, every r k .0))
             go q m e (loss r k v f) = omega (arith, e, v, f q m .1, every r k .1)
             go q m e (draw r k v w f) = clash (won-of {e = t r} (every r k .0) (omega (arith, every r k .1, low))) w
+
+  -- no win is quicker than one in 1
+  right-one : right 1 es ≡ hit next t 1 p
+  right-one = same-test (right 1 es) (hit next t 1 p) (λ h. and-left _ _ (sym asks ∙ h)) (λ h. asks ∙ and-both _ _ h (ap not none))
+    where
+      asks : right 1 es ≡ (hit next t 1 p && not (any (λ q. isLost (t q) && ltb (suc (t q)) 1) (next p)))
+      asks = right-odd 1 (omega arith) refl
+
+      none : any (λ q. isLost (t q) && ltb (suc (t q)) 1) (next p) ≡ false
+      none = none-any _ (next p) (λ q m. sym (untrue _ (λ h. omega (arith, ltb-true (suc (t q)) 1 (and-right (isLost (t q)) _ h)))))
+
+  -- so the levels below 2 need only hit
+  pub right-few : (n : ℕ) → n < 2 → right n es ≡ hit next t n p
+  right-few zero h = right-zero
+  right-few (suc zero) h = right-one
+  right-few (suc (suc n)) h = absurd (omega arith)
+
+  -- and the level of a right depth always hits
+  pub right-hits : (n : ℕ) → n < voidEntry → right n es ≡ true → hit next t n p ≡ true
+  right-hits n low h = go (ltb n 2) refl (eqb (n % 2) 1) refl
+    where
+      go : (a : Bool) → ltb n 2 ≡ a → (b : Bool) → eqb (n % 2) 1 ≡ b → hit next t n p ≡ true
+      go true e b f = sym (right-few n (ltb-true n 2 e)) ∙ h
+      go false e true f = and-left _ _ (sym (right-odd n low (eqb-true (n % 2) 1 f)) ∙ h)
+      go false e false f =
+          and-left _ _ (sym (right-even n low (omega (arith, eqb-false (n % 2) 1 f)) (omega (arith, ltb-false n 2 e))) ∙ h)
