@@ -5,10 +5,12 @@ use mathlib.Core.List.{List, [], _∷_, _++_, map, map-append, append-assoc, Lis
 use Prim.Native.Nat.{ℕ, zero, suc, _+_, _-_, _*_, _≤_, _<_}
 use native.Mathlib.Omega.{arith}
 use lib.Dec.{leb}
-use lib.ListN.{length, length-append}
+use lib.ListN.{length, length-append, length-map}
 use borrow.Author.Tests.{leb-true, leb-false}
 use Rattle.lists.specs.Lists.{range, keep, each}
+use Rattle.lists.proofs.Joined.{each-append}
 use Rattle.lists.proofs.Keep.{keep-yes, keep-no}
+use Rattle.lists.proofs.Lengths.{length-range}
 use Rattle.lists.proofs.Members.{each-member, member-each, map-member, member-map, range-member, member-range}
 use Rattle.sizes.specs.Size.{size}
 use Rattle.sizes.proofs.Multinomials.{size-over}
@@ -19,6 +21,7 @@ use Rattle.outcomes.specs.Filled.{AllTables}
 use Rattle.outcomes.proofs.Boards.{InTables}
 use Rattle.outcomes.proofs.Ranked.{unrank-stands}
 use Rattle.certificate.specs.Certificate.{boardsOf, boards}
+use Rattle.certificate.proofs.Passing.{partsFrom, each-single, each-map}
 
 -- a board of the tablebase is among them, and they are boards of the tablebase
 module _ (rings k : ℕ) where
@@ -36,14 +39,6 @@ module _ (rings k : ℕ) where
       rw e (unrank-stands rings k (t .mover) (t .opponent) r (in-range (listed-table (8 * rings) k (t .mover) (t .opponent) i))
       (omega (arith, range-member (size (8 * rings) (t .mover) (t .opponent)) 0 l)))
 
-length-map : {A B : Type 0} (f : A → B) (l : List A) → length (map f l) ≡ length l
-length-map f [] = refl
-length-map f (x ∷ l) = ap suc (length-map f l)
-
-length-range : (a n : ℕ) → length (range a n) ≡ n
-length-range a zero = refl
-length-range a (suc n) = ap suc (length-range (suc a) n)
-
 module _ (points : ℕ) where
   abbrev boards-of : List Table → List (List ℕ)
   boards-of ts = each (λ t. boardsOf points t) ts
@@ -54,7 +49,7 @@ module _ (points : ℕ) where
   boards-length (t ∷ ts) =
       let n = size points (t .mover) (t .opponent) in
       length-append (boardsOf points t) (boards-of ts)
-      ∙ ap₂ _+_ (length-map (λ r. unrank points (t .mover) (t .opponent) r) (range 0 n) ∙ length-range 0 n) (boards-length ts)
+      ∙ ap₂ _+_ (length-map (range 0 n) (λ r. unrank points (t .mover) (t .opponent) r) ∙ length-range n 0) (boards-length ts)
 
   abbrev fits : Table → Bool
   fits t = leb (t .mover + t .opponent) points
@@ -69,20 +64,31 @@ module _ (points : ℕ) where
       go false e r = ap boards-of (keep-no fits t ts e) ∙ r ∙ sym (ap (λ (n : ℕ). map (λ i. unrank points (t .mover) (t .opponent) i) (range 0 n) ++ boards-of ts)
           (size-over points (t .mover) (t .opponent) (leb-false (t .mover + t .opponent) points e)))
 
-  each-append : (xs ys : List Table) → boards-of (xs ++ ys) ≡ boards-of xs ++ boards-of ys
-  each-append [] ys = refl
-  each-append (t ∷ xs) ys = ap (λ (l : List (List ℕ)). boardsOf points t ++ l) (each-append xs ys)
-      ∙ sym (append-assoc (boardsOf points t) (boards-of xs) (boards-of ys))
-
   -- row after row
   rows-boards : (k : ℕ) (ms : List ℕ) → boards-of (each (λ m. row k m) ms) ≡ each (λ m. boards-of (row k m)) ms
   rows-boards k [] = refl
   rows-boards k (m ∷ ms) =
-      each-append (row k m) (each (λ x. row k x) ms) ∙ ap (λ (l : List (List ℕ)). boards-of (row k m) ++ l) (rows-boards k ms)
+      each-append (λ t. boardsOf points t) (row k m) (each (λ x. row k x) ms) ∙ ap (λ (l : List (List ℕ)). boards-of (row k m) ++ l) (rows-boards k ms)
 
-  pub boards-rows : (k : ℕ) → boards points k ≡ each (λ m. each (λ t. boardsOf points t) (row k m)) (stones k)
+  boards-rows : (k : ℕ) → boards points k ≡ each (λ m. each (λ t. boardsOf points t) (row k m)) (stones k)
   unfolding boards tables
   boards-rows k = boards-fit (each (λ m. row k m) (stones k)) ∙ rows-boards k (stones k)
+
+  -- a table rank by rank, a row table by table, and a tablebase row by row
+  pub all-ranks : (m o : ℕ) → partsFrom (λ r. unrank points m o r ∷ []) 0 (size points m o) ≡ boardsOf points (table m o)
+  all-ranks m o =
+      let e : size points m o - 0 ≡ size points m o = omega arith in
+      each-single (λ r. unrank points m o r) (range 0 (size points m o - 0)) ∙ ap (λ (n : ℕ). map (λ r. unrank points m o r) (range 0 n)) e
+
+  pub all-tables : (k m : ℕ) → 3 ≤ k → partsFrom (λ o. boardsOf points (table m o)) 3 (k + 1) ≡ each (λ t. boardsOf points t) (row k m)
+  all-tables k m h =
+      let e : k + 1 - 3 ≡ k - 2 = omega arith in
+      ap (λ (n : ℕ). each (λ o. boardsOf points (table m o)) (range 3 n)) e ∙ sym (each-map (λ t. boardsOf points t) (λ o. table m o) (stones k))
+
+  pub all-rows : (k : ℕ) → 3 ≤ k → partsFrom (λ m. each (λ t. boardsOf points t) (row k m)) 3 (k + 1) ≡ boards points k
+  all-rows k h =
+      let e : k + 1 - 3 ≡ k - 2 = omega arith in
+      ap (λ (n : ℕ). each (λ m. each (λ t. boardsOf points t) (row k m)) (range 3 n)) e ∙ sym (boards-rows k)
 
   pub boards-all : (k : ℕ) → length (boards points k) ≡ tablebaseLength points k
   unfolding boards tablebaseLength

@@ -1,11 +1,11 @@
--- A list tested part after part: how many have passed, and what is left to test. Assumes nothing.
-use mathlib.Core.Path.{_≡_, refl, sym, ap, _∙_}
+-- A list tested part after part, so that a loop's step is one law: how many have passed, and what is left to test. Assumes nothing.
+use mathlib.Core.Path.{_≡_, refl, sym, ap, subst, _∙_}
 use mathlib.Core.Bool.{Bool, true, false}
-use mathlib.Core.List.{List, [], _∷_, _++_}
-use Prim.Native.Nat.{ℕ, suc, _+_, _≤_}
+use mathlib.Core.List.{List, [], _∷_, _++_, map}
+use Prim.Native.Nat.{ℕ, suc, _+_, _-_, _≤_, _<_}
 use native.Mathlib.Omega.{arith}
 use lib.ListN.{length, length-append}
-use Rattle.lists.specs.Lists.{all}
+use Rattle.lists.specs.Lists.{range, all, each}
 use Rattle.lists.proofs.Tests.{clash}
 use Rattle.certificate.specs.Certificate.{passing}
 
@@ -48,13 +48,13 @@ module _ {A : Type 0} (f : A → Bool) where
     pub every : all f whole ≡ all f rest
     pub long : n + length rest ≡ length whole
 
-  pub going-none : (whole : List A) → Going whole 0 whole
-  going-none whole = record { count = omega arith; every = refl; long = omega arith }
+  pub going-none : (whole rest : List A) → rest ≡ whole → Going whole 0 rest
+  going-none whole rest e = subst (λ (l : List A). Going l 0 rest) e record { count = omega arith; every = refl; long = omega arith }
 
   module _ (whole : List A) (n : ℕ) where
     module _ (xs rest : List A) (g : Going whole n (xs ++ rest)) where
       -- a part all of which passes
-      pub going-on : all f xs ≡ true → Going whole (n + passing f xs) rest
+      going-on : all f xs ≡ true → Going whole (n + passing f xs) rest
       going-on h =
           let s = pass-on xs rest h in record {
             count = omega (arith, g .count, s .0);
@@ -63,12 +63,59 @@ module _ {A : Type 0} (f : A → Bool) where
           }
 
       -- a part that holds the first to fail
-      pub going-stop : all f xs ≡ false → (n + passing f xs ≡ passing f whole) × (false ≡ all f whole)
+      going-stop : all f xs ≡ false → (n + passing f xs ≡ passing f whole) × (false ≡ all f whole)
       going-stop h = let s = fail-here xs rest h in (omega (arith, g .count, s .0), sym (g .every ∙ s .1))
 
-      pub going-room : n + passing f xs ≤ length whole
+      going-room : n + passing f xs ≤ length whole
       going-room = omega (arith, g .long, length-append xs rest, passing-most xs)
 
     -- nothing is left: all have passed
-    pub going-end : Going whole n [] → (n ≡ passing f whole) × (true ≡ all f whole)
+    going-end : Going whole n [] → (n ≡ passing f whole) × (true ≡ all f whole)
     going-end g = (omega (arith, g .count), sym (g .every))
+
+-- a list in parts that are numbered, those from i on and below e left
+module _ {A : Type 0} (part : ℕ → List A) where
+  abbrev pub partsFrom : ℕ → ℕ → List A
+  partsFrom i e = each part (range i (e - i))
+
+  next-part : (i e : ℕ) → i < e → partsFrom i e ≡ part i ++ partsFrom (i + 1) e
+  next-part i e h =
+      let n : e - i ≡ suc (e - (i + 1)) = omega arith in
+      let j : suc i ≡ i + 1 = omega arith in
+      ap (λ (k : ℕ). each part (range i k)) n ∙ ap (λ (k : ℕ). part i ++ each part (range k (e - (i + 1)))) j
+
+  no-part : (i e : ℕ) → e ≤ i → partsFrom i e ≡ []
+  no-part i e h = let n : e - i ≡ 0 = omega arith in ap (λ (k : ℕ). each part (range i k)) n
+
+  module _ (f : A → Bool) (whole : List A) (n i e : ℕ) (g : Going f whole n (partsFrom i e)) where
+    at-part : i < e → Going f whole n (part i ++ partsFrom (i + 1) e)
+    at-part h = subst (λ (l : List A). Going f whole n l) (next-part i e h) g
+
+    pub part-passed : i < e → all f (part i) ≡ true → Going f whole (n + passing f (part i)) (partsFrom (i + 1) e)
+    part-passed h = going-on f whole n (part i) (partsFrom (i + 1) e) (at-part h)
+
+    pub part-failed : i < e → all f (part i) ≡ false → (n + passing f (part i) ≡ passing f whole) × (false ≡ all f whole)
+    part-failed h = going-stop f whole n (part i) (partsFrom (i + 1) e) (at-part h)
+
+    pub part-room : i < e → n + passing f (part i) ≤ length whole
+    part-room h = going-room f whole n (part i) (partsFrom (i + 1) e) (at-part h)
+
+    pub parts-passed : e ≤ i → (n ≡ passing f whole) × (true ≡ all f whole)
+    parts-passed h = going-end f whole n (subst (λ (l : List A). Going f whole n l) (no-part i e h) g)
+
+-- a part of one member
+module _ {A : Type 0} (f : A → Bool) (x : A) where
+  pub one-passed : f x ≡ true → (all f (x ∷ []) ≡ true) × (passing f (x ∷ []) ≡ 1)
+  one-passed e = rw (e, all, passing) (refl, refl)
+
+  pub one-failed : f x ≡ false → (all f (x ∷ []) ≡ false) × (passing f (x ∷ []) ≡ 0)
+  one-failed e = rw (e, all, passing) (refl, refl)
+
+-- a list of single members, and one made from another list, in parts
+pub each-single : {A B : Type 0} (g : A → B) (l : List A) → each (λ x. g x ∷ []) l ≡ map g l
+each-single g [] = refl
+each-single g (x ∷ l) = ap (λ (r : List _). g x ∷ r) (each-single g l)
+
+pub each-map : {A B C : Type 0} (f : B → List C) (g : A → B) (l : List A) → each f (map g l) ≡ each (λ x. f (g x)) l
+each-map f g [] = refl
+each-map f g (x ∷ l) = ap (λ (r : List _). f (g x) ++ r) (each-map f g l)
