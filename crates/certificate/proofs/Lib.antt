@@ -2,3 +2,4 @@ pub mod Judged
 pub mod Questions
 pub mod Passing
 pub mod Boards
+pub mod Verdict
