@@ -7,5 +7,6 @@ unfoldable pub use Rattle.class_calls.specs.RepresentativeCall.{representativeC
 pub use Rattle.fill_calls.specs.Fills.{FillCall, FillPairCall}
 unfoldable pub use Rattle.entry_calls.specs.LookupCall.{lookupCall}
 unfoldable pub use Rattle.entry_calls.specs.BestMoveCall.{bestMoveCall}
+unfoldable pub use Rattle.check_calls.specs.CheckCall.{checkCall}
 unfoldable pub use Rattle.frame_calls.specs.ReadFrameCall.{readFrameCall}
 unfoldable pub use Rattle.frame_calls.specs.WriteFrameCall.{writeFrameCall, writeFrameTarget}

@@ -3,8 +3,8 @@
 // Every call answers on every input: its result, or the number of the first refusal that it meets (document 01's table, with 20 of document 02
 // after 1), and then each lent buffer is as the table says. `docs/PROMISES.md` says which sentence of the papers each contract states.
 //
-// The calls on moves, fills and entries take the rules edition after `rings`. Under both editions a closed mill removes an opposing stone outside any
-// mill; if all stand in mills, under edition 1 any one, under edition 2 nothing.
+// The calls on moves, fills, entries and certificates take the rules edition after `rings`. Under both editions a closed mill removes an opposing
+// stone outside any mill; if all stand in mills, under edition 1 any one, under edition 2 nothing.
 
 // Ranks. `rank` gives the rank of a board of 8 × rings bytes. `unrank` writes the board of a rank among those of given counts.
 pub use answers::Ranked;
@@ -36,6 +36,11 @@ pub use answers::Chosen;
 pub use answers::Looked;
 pub use entry_calls::best_move;
 pub use entry_calls::lookup;
+
+// Certificates. `check` says whether a tablebase, whoever made it, holds the outcome of every position under an edition, or gives the first index that
+// fails.
+pub use answers::Checked;
+pub use check_calls::check;
 
 // Frames. `read_frame` gives the position of a frame. `number_of` gives the number in what it answered, 0 for a position. `write_frame` writes rings and
 // a board as a frame.

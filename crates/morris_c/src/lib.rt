@@ -6,7 +6,7 @@ ghost use mathlib.Core.Path.{_≡_};
 ghost use mathlib.Core.List.{[]};
 ghost use Rattle.answers.specs.Answers.{number as numberOf, value, answer as answered};
 ghost use Rattle.morris.specs.Calls.{rankCall, unrankCall, unrankTarget, movesCall, movesList, makeMoveCall, makeMoveTarget, representativeCall};
-ghost use Rattle.morris.specs.Calls.{FillCall, FillPairCall, lookupCall, bestMoveCall, readFrameCall, writeFrameCall, writeFrameTarget};
+ghost use Rattle.morris.specs.Calls.{FillCall, FillPairCall, lookupCall, bestMoveCall, checkCall, readFrameCall, writeFrameCall, writeFrameTarget};
 
 // The rank of a board.
 #[no_mangle]
@@ -138,6 +138,23 @@ pub extern "C" fn morris_best_move(
         number,
         entry,
     )
+}
+
+// Whether every entry of a tablebase of largest count k is right under an edition, or the first index that fails.
+#[no_mangle]
+pub extern "C" fn morris_check(
+    rings: u8,
+    edition: u8,
+    k: u8,
+    tablebase: &[u16],
+    passed: &mut u8,
+    index: &mut u64,
+) -> u8
+    ensures refusal { λ r. ⌜ r ≡ numberOf (checkCall rings edition k (now (tablebase .entry))) ⌝ }
+    ensures passed { λ _. ⌜ now (passed .exit) ≡ value (checkCall rings edition k (now (tablebase .entry))) 0 ⌝ }
+    ensures index { λ _. ⌜ now (index .exit) ≡ value (checkCall rings edition k (now (tablebase .entry))) 1 ⌝ }
+{
+    numbers::checked(morris::check(rings, edition, k, tablebase), passed, index)
 }
 
 // Reads a frame: the rings, the points of the side to move, those of the other side.

@@ -1,7 +1,8 @@
 // An answer as numbers: document 01's number is returned, the values are given through `&mut`. "A refusal returns its number and zero elsewhere."
 ghost use mathlib.Core.Path.{_≡_};
 ghost use Rattle.answers.specs.Answers.{number as numberOf, value};
-ghost use Rattle.answers.specs.Answers.{ranked, unranked, listed, made, represented, solved, looked, chosen, frameRead, frameWritten};
+ghost use Rattle.answers.specs.Answers.{ranked, unranked, listed, made, represented, solved, looked, chosen, checked, frameRead, frameWritten};
+use answers::Checked;
 use answers::Chosen;
 use answers::Frame;
 use answers::Framed;
@@ -129,6 +130,31 @@ pub fn chosen(answer: Chosen, number: &mut u16, entry: &mut u16) -> u8
         Chosen::Refused(n) => {
             *number = 0;
             *entry = 0;
+            n
+        }
+    }
+}
+
+// Whether a tablebase passed, and the first index that fails.
+pub fn checked(answer: Checked, passed: &mut u8, index: &mut u64) -> u8
+    ensures refusal { λ r. ⌜ r ≡ numberOf (checked answer) ⌝ }
+    ensures passed { λ _. ⌜ now (passed .exit) ≡ value (checked answer) 0 ⌝ }
+    ensures index { λ _. ⌜ now (index .exit) ≡ value (checked answer) 1 ⌝ }
+{
+    match answer {
+        Checked::Passed => {
+            *passed = 1;
+            *index = 0;
+            0
+        }
+        Checked::Fails(i) => {
+            *passed = 0;
+            *index = i;
+            0
+        }
+        Checked::Refused(n) => {
+            *passed = 0;
+            *index = 0;
             n
         }
     }
