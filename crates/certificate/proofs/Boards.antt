@@ -1,5 +1,5 @@
 -- The boards of a tablebase in order: each of its boards is there, and stands at the index of its entry. Assumes nothing.
-use mathlib.Core.Path.{_≡_, refl, sym, ap, ap₂, _∙_}
+use mathlib.Core.Path.{_≡_, refl, sym, ap, ap₂, subst, _∙_}
 use mathlib.Core.Bool.{Bool, true, false}
 use mathlib.Core.List.{List, [], _∷_, _++_, map, map-append, append-assoc, List·Memᴰ}
 use Prim.Native.Nat.{ℕ, zero, suc, _+_, _-_, _*_, _≤_, _<_}
@@ -14,22 +14,32 @@ use Rattle.lists.proofs.Lengths.{length-range}
 use Rattle.lists.proofs.Members.{each-member, member-each, map-member, member-map, range-member, member-range}
 use Rattle.sizes.specs.Size.{size}
 use Rattle.sizes.proofs.Multinomials.{size-over}
+use Rattle.board.specs.Board.{count}
+use Rattle.ranking.specs.Rank.{rank}
 use Rattle.ranking.specs.Unrank.{unrank}
 use Rattle.layout.specs.Layout.{Table, table, stones, row, tables, entries, tablebaseLength}
-use Rattle.layout.proofs.OneToOne.{in-range, listed-table}
+use Rattle.layout.proofs.OneToOne.{in-range, table-listed, listed-table}
 use Rattle.outcomes.specs.Filled.{AllTables}
 use Rattle.outcomes.proofs.Boards.{InTables}
-use Rattle.outcomes.proofs.Ranked.{unrank-stands}
+use Rattle.outcomes.proofs.Ranked.{own-table, rank-in, unrank-of, unrank-stands}
 use Rattle.certificate.specs.Certificate.{boardsOf, boards}
 use Rattle.certificate.proofs.Passing.{partsFrom, each-single, each-map}
 
 -- a board of the tablebase is among them, and they are boards of the tablebase
 module _ (rings k : ℕ) where
-  pub board-listed : (x y r : ℕ) → AllTables rings k x y → r < size (8 * rings) x y → List·Memᴰ (unrank (8 * rings) x y r) (boards (8 * rings) k)
+  board-listed : (x y r : ℕ) → AllTables rings k x y → r < size (8 * rings) x y → List·Memᴰ (unrank (8 * rings) x y r) (boards (8 * rings) k)
   unfolding boards
   board-listed x y r t h =
       member-each (λ u. boardsOf (8 * rings) u) (tables (8 * rings) k) (table x y) t
       (member-map (λ i. unrank (8 * rings) x y i) (range 0 (size (8 * rings) x y)) (member-range (size (8 * rings) x y) 0 r (omega arith) (omega arith)))
+
+  pub tables-listed : (b : List ℕ) → InTables rings k b → List·Memᴰ b (boards (8 * rings) k)
+  tables-listed b s =
+      let w = own-table rings k b s in
+      let x = count 1 b in
+      let y = count 2 b in
+      subst (λ (c : List ℕ). List·Memᴰ c (boards (8 * rings) k)) (unrank-of rings x y b w)
+      (board-listed x y (rank b) (table-listed (8 * rings) k x y (s .is-table)) (rank-in rings x y b w))
 
   pub listed-board : (b : List ℕ) → List·Memᴰ b (boards (8 * rings) k) → InTables rings k b
   unfolding boards

@@ -3,3 +3,5 @@ pub mod Questions
 pub mod Passing
 pub mod Boards
 pub mod Verdict
+pub mod Outcomes
+pub mod Places
