@@ -150,7 +150,7 @@ module _ {A : Type 0} (place : A → ℕ) where
       omega (arith, stands-after (suc a) k xs ys f y m)
 
 -- a verdict that gives an index: there stands an entry that is not right, and every entry before it is
-module _ (rule : Rule) (rings k : ℕ) (low : 3 ≤ k) (tablebase : List ℕ) (i : ℕ) where
+module _ (rule : Rule) (rings k : ℕ) (tablebase : List ℕ) (i : ℕ) where
   pub record FailsFirst : Type 0 where
     pub board : List ℕ
     pub in-tables : InTables rings k board
@@ -158,8 +158,8 @@ module _ (rule : Rule) (rings k : ℕ) (low : 3 ≤ k) (tablebase : List ℕ) (i
     pub wrong : entryRight rule rings k tablebase board ≡ false
     pub before : (b : List ℕ) → InTables rings k b → placeOf rings k b < i → entryRight rule rings k tablebase b ≡ true
 
-  pub fails-first : certificate rule rings k tablebase ≡ 0 ∷ i ∷ [] → FailsFirst
-  fails-first e = record {
+  pub fails-first : 3 ≤ k → certificate rule rings k tablebase ≡ 0 ∷ i ∷ [] → FailsFirst
+  fails-first low e = record {
     board = w .here;
     in-tables = listed-board rings k (w .here) (subst (λ (l : List (List ℕ)). List·Memᴰ (w .here) l) (sym (w .parted))
         (Memᴰ·append-right (w .before) (List·Memᴰ·head refl)));
