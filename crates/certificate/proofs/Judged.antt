@@ -1,4 +1,5 @@
--- An entry is right exactly where it is what the successors' entries judge it to be, and not void. Assumes nothing.
+-- When an entry is right, tried by computation; and an entry is right exactly where it is what the successors' entries judge it to be, and not void.
+-- Assumes nothing.
 use mathlib.Core.Path.{_≡_, refl, sym, ap, _∙_, subst}
 use mathlib.Core.Bool.{Bool, true, false, not, _&&_, _||_}
 use mathlib.Core.List.{List, [], _∷_, map, List·Memᴰ}
@@ -16,6 +17,27 @@ use Rattle.game.specs.Judgement.{isLost, isWon, leastLost, greatest, judge}
 use Rattle.game.proofs.Entries.{lost-is, lost-of, won-is, won-of}
 use Rattle.game.proofs.Judging.{Judged, blocked, win, loss, draw, judged, least-lost-low, least-lost-in, greatest-high, greatest-in}
 use Rattle.certificate.specs.Right.{blockedRight, wonRight, lostRight, drawRight, right}
+
+-- The definition tried. A blocked mover has lost in 0: not a draw, and nothing deeper
+blocked-cases : (right 0 [] ≡ true) × (right 2 [] ≡ false) × (right 65535 [] ≡ false) × (right 0 (65535 ∷ []) ≡ false)
+unfolding right isWon isLost
+blocked-cases = (refl, refl, refl, refl)
+
+-- a win takes 1 + the quickest lost successor
+won-cases : (right 3 (4 ∷ 2 ∷ 65535 ∷ []) ≡ true) × (right 5 (4 ∷ 2 ∷ []) ≡ false) × (right 1 (2 ∷ []) ≡ false) × (right 3 (65534 ∷ []) ≡ false)
+unfolding right isWon isLost
+won-cases = (refl, refl, refl, refl)
+
+-- a loss takes 1 + the slowest of successors that are all won; where that would be 65,534 no entry is right
+lost-cases : (right 4 (1 ∷ 3 ∷ []) ≡ true) × (right 2 (1 ∷ 3 ∷ []) ≡ false) × (right 4 (3 ∷ 65535 ∷ []) ≡ false) × (right 65534 (65533 ∷ []) ≡ false)
+unfolding right isWon isLost
+lost-cases = (refl, refl, refl, refl)
+
+-- a draw has no lost successor and one that is not won; a void one is neither
+draw-cases : (right 65535 (1 ∷ 65535 ∷ []) ≡ true) × (right 65535 (1 ∷ 65534 ∷ []) ≡ true) × (right 65535 (1 ∷ 3 ∷ []) ≡ false)
+    × (right 65535 (65535 ∷ 2 ∷ []) ≡ false)
+unfolding right isWon isLost
+draw-cases = (refl, refl, refl, refl)
 
 greatest-none : (es : List ℕ) → isEmpty es ≡ true → greatest es ≡ 0
 greatest-none [] h = refl

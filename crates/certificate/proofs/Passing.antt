@@ -4,10 +4,16 @@ use mathlib.Core.Bool.{Bool, true, false}
 use mathlib.Core.List.{List, [], _∷_, _++_, map}
 use Prim.Native.Nat.{ℕ, suc, _+_, _-_, _≤_, _<_}
 use native.Mathlib.Omega.{arith}
+use lib.Dec.{eqb}
 use lib.ListN.{length, length-append}
 use Rattle.lists.specs.Lists.{range, all, each}
 use Rattle.lists.proofs.Tests.{clash}
-use Rattle.certificate.specs.Certificate.{passing}
+use Rattle.certificate.specs.Certificate.{passing, verdict}
+
+-- the first index that fails, and none where all pass
+verdict-cases : (verdict (λ n. eqb n 7) (7 ∷ 7 ∷ 5 ∷ 7 ∷ 5 ∷ 7 ∷ []) ≡ 0 ∷ 2 ∷ []) × (verdict (λ n. eqb n 7) (5 ∷ 7 ∷ []) ≡ 0 ∷ 0 ∷ [])
+    × (verdict (λ n. eqb n 7) (7 ∷ 7 ∷ []) ≡ 1 ∷ 0 ∷ [])
+verdict-cases = (refl, refl, refl)
 
 module _ {A : Type 0} (f : A → Bool) where
   -- all of the first part pass: the second decides

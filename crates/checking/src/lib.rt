@@ -141,21 +141,21 @@ pub fn check_all(
     ensures { λ p. ⌜ Tested (entryRight (removable (kind .edition)) (kind .rings) (kind .k) (now (tablebase .entry)))
         (boards (8 * kind .rings) (kind .k)) p ⌝ }
 {
-    let mut count: usize = 0;
+    let mut passed: usize = 0;
     let mut m = 3;
     while m <= kind.k {
         let part = check_row(tablebase, binomials, masks, kind, m);
-        count += part.count;
+        passed += part.count;
         if !part.all {
             return Passed {
-                count: count,
+                count: passed,
                 all: false,
             };
         }
         m += 1;
     }
     Passed {
-        count: count,
+        count: passed,
         all: true,
     }
 }

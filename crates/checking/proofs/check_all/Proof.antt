@@ -17,13 +17,13 @@ use Rattle.checking.proofs.check_all.Statement.{statement}
 use Rattle.checking.proofs.check_all.Tie as tie
 
 abbrev Inv-loop : tie.InvT-loop
-Inv-loop tablebase binomials masks kind count₀ m₀ count m =
+Inv-loop tablebase binomials masks kind passed₀ m₀ passed m =
     (3 ≤ m)
-    × Going (entryRight (removable (kind .edition)) (kind .rings) (kind .k) tablebase) (boards (8 * kind .rings) (kind .k)) count
+    × Going (entryRight (removable (kind .edition)) (kind .rings) (kind .k) tablebase) (boards (8 * kind .rings) (kind .k)) passed
     (partsFrom (λ i. each (λ t. boardsOf (8 * kind .rings) t) (row (kind .k) i)) m (kind .k + 1))
 
 abbrev μ-loop : tie.MeasureT-loop
-μ-loop tablebase binomials masks kind count₀ m₀ count m = kind .k + 1 - m
+μ-loop tablebase binomials masks kind passed₀ m₀ passed m = kind .k + 1 - m
 
 -- what is tested, and its parts
 abbrev test : tie.Start Inv-loop μ-loop → List ℕ → Bool
@@ -40,14 +40,14 @@ returns c =
     let x = c .before .before .before .before .before .before in
     let s = x .before .before in
     let t = c .before .before .before in
-    step-failed (part s) (test s) (tested s) (x .loop .count) (x .loop .m) (s .args .kind .k + 1) (x .loop .inv .1)
+    step-failed (part s) (test s) (tested s) (x .loop .passed) (x .loop .m) (s .args .kind .k + 1) (x .loop .inv .1)
     (omega (arith, c .before .before .before .before .if1 .taken)) (t .check-row .result) (t .check-row .ensures) (not-true _ (c .if2 .taken))
 
 returns-2 : tie.Need-returns-2 Inv-loop μ-loop
 returns-2 c =
     let x = c .before .before in
     let s = x .before .before in
-    steps-done (part s) (test s) (tested s) (x .loop .count) (x .loop .m) (s .args .kind .k + 1) (x .loop .inv .1) (omega (arith, c .if1 .left))
+    steps-done (part s) (test s) (tested s) (x .loop .passed) (x .loop .m) (s .args .kind .k + 1) (x .loop .inv .1) (omega (arith, c .if1 .left))
 
 loop-holds : tie.Need-loop-holds Inv-loop μ-loop
 loop-holds c =
@@ -61,7 +61,7 @@ loop-again c =
     let s = x .before .before in
     let t = c .before .before .before in (
       omega (arith, x .loop .inv .0),
-      step-passed (part s) (test s) (tested s) (x .loop .count) (x .loop .m) (s .args .kind .k + 1) (x .loop .inv .1)
+      step-passed (part s) (test s) (tested s) (x .loop .passed) (x .loop .m) (s .args .kind .k + 1) (x .loop .inv .1)
           (omega (arith, c .before .before .before .before .if1 .taken)) (t .check-row .result) (t .check-row .ensures) (not-false _ (c .if2 .left)),
     )
 
@@ -74,13 +74,13 @@ check-row-requires c κs =
     )
 
 -- there are as many boards as entries
-add-count : tie.Need-add-count Inv-loop μ-loop
-add-count c =
+add-passed : tie.Need-add-passed Inv-loop μ-loop
+add-passed c =
     let x = c .before .before .before .before in
     let s = x .before .before in
     let a = s .args in
     let w = s .pre .1 in
-    omega (arith, step-room (part s) (test s) (tested s) (x .loop .count) (x .loop .m) (a .kind .k + 1) (x .loop .inv .1)
+    omega (arith, step-room (part s) (test s) (tested s) (x .loop .passed) (x .loop .m) (a .kind .k + 1) (x .loop .inv .1)
     (omega (arith, c .before .before .if1 .taken)) (c .before .check-row .result) (c .before .check-row .ensures),
     boards-all (8 * a .kind .rings) (a .kind .k), w .exact)
 
@@ -98,7 +98,7 @@ check-all-spec =
     μ-loop
     loop-holds
     check-row-requires
-    add-count
+    add-passed
     returns
     add-m
     loop-less
