@@ -1,12 +1,12 @@
 -- The boards of a tablebase in order: each of its boards is there, and stands at the index of its entry. Assumes nothing.
 use mathlib.Core.Path.{_≡_, refl, sym, ap, ap₂, subst, _∙_}
 use mathlib.Core.Bool.{Bool, true, false}
-use mathlib.Core.List.{List, [], _∷_, _++_, map, map-append, append-assoc, List·Memᴰ}
-use Prim.Native.Nat.{ℕ, zero, suc, _+_, _-_, _*_, _≤_, _<_}
+use mathlib.Core.List.{List, [], _∷_, _++_, map, List·Memᴰ}
+use Prim.Native.Nat.{ℕ, _+_, _-_, _*_, _≤_, _<_}
 use native.Mathlib.Omega.{arith}
 use lib.Dec.{leb}
 use lib.ListN.{length, length-append, length-map}
-use borrow.Author.Tests.{leb-true, leb-false}
+use borrow.Author.Tests.{leb-false}
 use Rattle.lists.specs.Lists.{range, keep, each}
 use Rattle.lists.proofs.Joined.{each-append}
 use Rattle.lists.proofs.Keep.{keep-yes, keep-no}
@@ -71,7 +71,8 @@ module _ (points : ℕ) where
     where
       go : (b : Bool) → fits t ≡ b → boards-of (keep fits ts) ≡ boards-of ts → boards-of (keep fits (t ∷ ts)) ≡ boards-of (t ∷ ts)
       go true e r = ap boards-of (keep-yes fits t ts e) ∙ ap (λ (l : List (List ℕ)). boardsOf points t ++ l) r
-      go false e r = ap boards-of (keep-no fits t ts e) ∙ r ∙ sym (ap (λ (n : ℕ). map (λ i. unrank points (t .mover) (t .opponent) i) (range 0 n) ++ boards-of ts)
+      go false e r = ap boards-of (keep-no fits t ts e) ∙ r
+          ∙ sym (ap (λ (n : ℕ). map (λ i. unrank points (t .mover) (t .opponent) i) (range 0 n) ++ boards-of ts)
           (size-over points (t .mover) (t .opponent) (leb-false (t .mover + t .opponent) points e)))
 
   -- row after row

@@ -10,12 +10,12 @@ use lib.ListN.{length, getD, drop, length-append, length-map}
 use Rattle.lists.specs.Lists.{range, each, all}
 use Rattle.lists.proofs.Joined.{range-split}
 use Rattle.lists.proofs.Lengths.{length-range}
-use Rattle.lists.proofs.Members.{map-member, member-map, range-member}
+use Rattle.lists.proofs.Members.{member-map, range-member}
 use Rattle.lists.proofs.Tests.{clash, all-member}
 use Rattle.sizes.specs.Size.{size}
 use Rattle.ranking.specs.Unrank.{unrank}
-use Rattle.layout.specs.Layout.{Table, table, row, entries, start, tablebaseLength}
-use Rattle.layout.proofs.Places.{rowPart, rowsPart, row-more, rows-more, start-is, length-is}
+use Rattle.layout.specs.Layout.{table, row, entries, start}
+use Rattle.layout.proofs.Places.{rowPart, rowsPart, row-more, rows-more, start-is}
 use Rattle.rules.specs.Ply.{Rule}
 use Rattle.outcomes.specs.Places.{placeOf}
 use Rattle.outcomes.proofs.Boards.{InTables}
@@ -78,7 +78,8 @@ module _ (rings k : ℕ) where
       where
         at : (o : ℕ) → 3 ≤ o → o < 3 + (k + 1 - 3)
             → InPlace place (rowsPart points k (m - 3) + rowPart points m (o - 3)) (boardsOf points (table m o))
-            × (rowsPart points k (m - 3) + rowPart points m (suc o - 3) ≡ rowsPart points k (m - 3) + rowPart points m (o - 3) + length (boardsOf points (table m o)))
+            × (rowsPart points k (m - 3) + rowPart points m (suc o - 3)
+            ≡ rowsPart points k (m - 3) + rowPart points m (o - 3) + length (boardsOf points (table m o)))
         at o c d =
             let e : suc o - 3 ≡ suc (o - 3) = omega arith in
             let f : 3 + (o - 3) ≡ o = omega arith in (

@@ -7,10 +7,11 @@ use Prim.Native.Nat.{ℕ, zero, suc, _<_, _%_}
 use native.Mathlib.Omega.{arith}
 use lib.Dec.{eqb, ltb}
 use borrow.Author.Tests.{eqb-true, eqb-false, eq-eqb, ltb-true, ltb-false, lt-ltb, not-true}
-use Rattle.lists.specs.Lists.{any, all, isEmpty}
-use Rattle.lists.proofs.Tests.{same-test, clash, untrue, and-left, and-right, and-both, any-member, member-any, none-any, any-none, all-member, member-all, empty-none}
+use Rattle.lists.specs.Lists.{any, isEmpty}
+use Rattle.lists.proofs.Tests.{same-test, clash, untrue, and-left, and-right, and-both, any-member, member-any, none-any, any-none}
+use Rattle.lists.proofs.Tests.{all-member, member-all, empty-none}
 use Rattle.game.specs.Game.{drawEntry, voidEntry}
-use Rattle.game.specs.Judgement.{isLost, isWon, judge, hit, decided}
+use Rattle.game.specs.Judgement.{isLost, judge, hit, decided}
 use Rattle.game.proofs.Entries.{lost-is, lost-of, won-is, won-of}
 use Rattle.game.proofs.Judging.{Judged, blocked, win, loss, draw, judged, undecided-draw, draw-undecided}
 use Rattle.game.proofs.Hits.{hit-odd, hit-even, hit-zero}

@@ -56,8 +56,14 @@ module _ (n : ℕ) (kind : Kind) (whole : Whole n kind) (t : Table) (same : ℕ)
   here = unrank points (t .mover) (t .opponent) (at .rank)
 
   pub place-within : t .own .start + at .rank < n
-  place-within = omega (arith, whole .exact, is .located .start-is, end-is points (kind .k) (t .mover) (t .opponent),
-      end-within points (kind .k) (is .range), stands .rank-low)
+  place-within = omega (
+    arith,
+    whole .exact,
+    is .located .start-is,
+    end-is points (kind .k) (t .mover) (t .opponent),
+    end-within points (kind .k) (is .range),
+    stands .rank-low,
+  )
 
   placed : Placed (kind .rings) (at .position) × (boardOf points (at .position) ≡ here)
   placed = placed-at (kind .rings) (whole .small) (t .mover) (t .opponent) (at .rank) (stands .rank-low) (at .position) (stands .position-is)

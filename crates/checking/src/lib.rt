@@ -130,12 +130,7 @@ fn check_row(
 }
 
 // The whole tablebase, row by row.
-pub fn check_all(
-    tablebase: &[u16],
-    binomials: &[u32; 625],
-    masks: &[u32; 72],
-    kind: Kind,
-) -> Passed
+pub fn check_all(tablebase: &[u16], binomials: &[u32; 625], masks: &[u32; 72], kind: Kind) -> Passed
     requires { ⌜ Lent (kind .rings) (now binomials) (now masks) ⌝ }
     requires { ⌜ Whole (length (now tablebase)) kind ⌝ }
     ensures { λ p. ⌜ Tested (entryRight (removable (kind .edition)) (kind .rings) (kind .k) (now (tablebase .entry)))

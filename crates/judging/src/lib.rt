@@ -13,9 +13,9 @@ ghost use Rattle.game.specs.Game.{voidEntry};
 ghost use Rattle.game.specs.Judgement.{hit, decided};
 ghost use Rattle.probing.specs.Inner.Probes.{probe};
 ghost use Rattle.probing.specs.Inner.Conditions.{Probing};
-pub use successors::some_successor;
 use asking::NOT_WON;
 use asking::Question;
+pub use successors::some_successor;
 use tables::Starts;
 
 // The key of void, and of a draw.

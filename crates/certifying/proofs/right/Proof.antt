@@ -1,9 +1,8 @@
 -- `certifying::right` meets its contract. Assumes nothing.
-use mathlib.Core.Path.{_≡_, sym, ap, _∙_}
+use mathlib.Core.Path.{sym, ap, _∙_}
 use mathlib.Core.Bool.{not}
 use mathlib.Core.List.{List, map}
 use Prim.Native.Nat.{ℕ, _*_}
-use native.Mathlib.Omega.{arith}
 use Rattle.board.specs.Board.{count, boardOf}
 use Rattle.rules.specs.Ply.{removable, successors}
 use Rattle.probing.specs.Inner.Probes.{probe}

@@ -1,10 +1,8 @@
 -- `checking::check_all` meets its contract. The invariant: the rows passed have right entries. Assumes nothing.
-use mathlib.Core.Path.{_≡_}
 use mathlib.Core.Bool.{Bool}
 use mathlib.Core.List.{List}
-use Prim.Native.Nat.{ℕ, _+_, _-_, _*_, _≤_, _<_}
+use Prim.Native.Nat.{ℕ, _+_, _-_, _*_, _≤_}
 use native.Mathlib.Omega.{arith}
-use lib.ListN.{length}
 use borrow.Author.Tests.{not-true, not-false}
 use Rattle.lists.specs.Lists.{each}
 use Rattle.layout.specs.Layout.{row}
@@ -80,9 +78,13 @@ add-passed c =
     let s = x .before .before in
     let a = s .args in
     let w = s .pre .1 in
-    omega (arith, step-room (part s) (test s) (tested s) (x .loop .passed) (x .loop .m) (a .kind .k + 1) (x .loop .inv .1)
-    (omega (arith, c .before .before .if1 .taken)) (c .before .check-row .result) (c .before .check-row .ensures),
-    boards-all (8 * a .kind .rings) (a .kind .k), w .exact)
+    omega (
+      arith,
+      step-room (part s) (test s) (tested s) (x .loop .passed) (x .loop .m) (a .kind .k + 1) (x .loop .inv .1)
+          (omega (arith, c .before .before .if1 .taken)) (c .before .check-row .result) (c .before .check-row .ensures),
+      boards-all (8 * a .kind .rings) (a .kind .k),
+      w .exact,
+    )
 
 add-m : tie.Need-add-m Inv-loop μ-loop
 add-m c = omega (arith, c .before .before .before .before .if1 .taken, c .before .before .before .before .before .before .before .before .pre .1 .largest-high)

@@ -1,10 +1,8 @@
 -- `checking::check_row` meets its contract. The invariant: the tables passed have right entries. Assumes nothing.
-use mathlib.Core.Path.{_≡_}
 use mathlib.Core.Bool.{Bool}
 use mathlib.Core.List.{List}
-use Prim.Native.Nat.{ℕ, _+_, _-_, _*_, _≤_, _<_}
+use Prim.Native.Nat.{ℕ, _+_, _-_, _*_, _≤_}
 use native.Mathlib.Omega.{arith}
-use lib.ListN.{length}
 use borrow.Author.Tests.{not-true, not-false}
 use Rattle.lists.specs.Lists.{each}
 use Rattle.layout.specs.Layout.{row, table}
@@ -71,12 +69,15 @@ check-table-requires c κs =
     let x = c .before .before in
     let p = x .before .before .pre in (
       p .0,
-      (p .1 .0, record {
-        mover-low = p .1 .1;
-        mover-high = p .1 .2;
-        opponent-low = x .loop .inv .0;
-        opponent-high = omega (arith, c .if1 .taken);
-      }),
+      (
+        p .1 .0,
+        record {
+          mover-low = p .1 .1;
+          mover-high = p .1 .2;
+          opponent-low = x .loop .inv .0;
+          opponent-high = omega (arith, c .if1 .taken);
+        },
+      ),
     )
 
 -- the entries of a row are no more than those of the tablebase
@@ -86,9 +87,14 @@ add-count c =
     let s = x .before .before in
     let a = s .args in
     let w = s .pre .1 in
-    omega (arith, step-room (part s) (test s) (tested s) (x .loop .count) (x .loop .o) (a .kind .k + 1) (x .loop .inv .1)
-    (omega (arith, c .before .before .if1 .taken)) (c .before .check-table .result) (c .before .check-table .ensures),
-    boards-length (8 * a .kind .rings) (row (a .kind .k) (a .m)), row-within (8 * a .kind .rings) (a .kind .k) (a .m) (w .1) (w .2), w .0 .exact)
+    omega (
+      arith,
+      step-room (part s) (test s) (tested s) (x .loop .count) (x .loop .o) (a .kind .k + 1) (x .loop .inv .1)
+          (omega (arith, c .before .before .if1 .taken)) (c .before .check-table .result) (c .before .check-table .ensures),
+      boards-length (8 * a .kind .rings) (row (a .kind .k) (a .m)),
+      row-within (8 * a .kind .rings) (a .kind .k) (a .m) (w .1) (w .2),
+      w .0 .exact,
+    )
 
 add-o : tie.Need-add-o Inv-loop μ-loop
 add-o c = omega (arith, c .before .before .before .before .if1 .taken, c .before .before .before .before .before .before .before .before .pre .1 .0 .largest-high)

@@ -2,9 +2,8 @@
 use mathlib.Core.Path.{_≡_, sym, ap, subst, _∙_}
 use mathlib.Core.Bool.{Bool}
 use mathlib.Core.List.{List, [], _∷_}
-use Prim.Native.Nat.{ℕ, _+_, _-_, _*_, _≤_, _<_}
+use Prim.Native.Nat.{ℕ, _+_, _-_, _*_, _≤_}
 use native.Mathlib.Omega.{arith}
-use lib.ListN.{length}
 use borrow.Author.Needs.{needs}
 use borrow.Author.Tests.{not-true, not-false}
 use Rattle.sizes.specs.Size.{size as sizeOf}
@@ -12,13 +11,13 @@ use Rattle.ranking.specs.Unrank.{unrank}
 use Rattle.layout.specs.Layout.{table as tableOf}
 use Rattle.layout.proofs.OneToOne.{end-is}
 use Rattle.rules.specs.Ply.{removable}
+use Rattle.tables.specs.declared.Table.{Table}
 use Rattle.tables.specs.Inner.Tables.{Located}
 use Rattle.seeking.specs.Inner.Cursors.{Stands}
 use Rattle.seeking.proofs.Positions.{stands-at}
 use Rattle.certificate.specs.Certificate.{boardsOf, entryRight}
 use Rattle.certificate.proofs.Passing.{Going, partsFrom, going-none, part-passed, part-failed, parts-passed, one-passed, one-failed}
 use Rattle.certificate.proofs.Boards.{all-ranks}
-use Rattle.checking.specs.Inner.Checking.{TableOf, StandsIn}
 use Rattle.checking.proofs.Places.{table-is, stands-in, board-here}
 use Rattle.checking.proofs.check_table.Statement.{statement}
 use Rattle.checking.proofs.check_table.Tie as tie
@@ -42,25 +41,33 @@ test c = let a = entered c .args in entryRight (removable (a .kind .edition)) (a
 abbrev tested : tie.After-nowhere Inv-loop μ-loop → List (List ℕ)
 tested c = let a = entered c .args in boardsOf (8 * a .kind .rings) (tableOf (a .m) (a .o))
 
+abbrev board : tie.After-nowhere Inv-loop μ-loop → ℕ → List ℕ
+board c i = let a = entered c .args in unrank (8 * a .kind .rings) (a .m) (a .o) i
+
 abbrev part : tie.After-nowhere Inv-loop μ-loop → ℕ → List (List ℕ)
-part c i = let a = entered c .args in unrank (8 * a .kind .rings) (a .m) (a .o) i ∷ []
+part c i = board c i ∷ []
+
+-- the table, and its size
+abbrev own : tie.After-nowhere Inv-loop μ-loop → Table
+own c = c .before .before .before .before .table-of .result
 
 abbrev entries : tie.After-nowhere Inv-loop μ-loop → ℕ
-entries c = let t = c .before .before .before .before .table-of .result in t .own .end - t .own .start
+entries c = own c .own .end - own c .own .start
 
--- the table is located
 located : (c : tie.After-nowhere Inv-loop μ-loop)
-    → Located (8 * entered c .args .kind .rings) (entered c .args .kind .k) (entered c .args .m) (entered c .args .o) (c .before .before .before .before .table-of .result)
+    → Located (8 * entered c .args .kind .rings) (entered c .args .kind .k) (entered c .args .m) (entered c .args .o) (own c)
 located c = c .before .before .before .before .table-of .ensures
 
--- what was found at the rank of a turn
-said : (c : tie.After-place-right Inv-loop μ-loop)
-    → c .place-right .result ≡ test (c .before .before .before .before) (unrank (8 * entered (c .before .before .before .before) .args .kind .rings) (entered (c .before .before .before .before) .args .m) (entered (c .before .before .before .before) .args .o) (c .before .before .before .loop .r))
+-- where the loop began, seen from a turn, and what the turn found at its rank
+abbrev began : tie.After-place-right Inv-loop μ-loop → tie.After-nowhere Inv-loop μ-loop
+began c = c .before .before .before .before
+
+said : (c : tie.After-place-right Inv-loop μ-loop) → c .place-right .result ≡ test (began c) (board (began c) (c .before .before .before .loop .r))
 said c =
-    let n = c .before .before .before .before in
-    let a = entered n .args in
+    let a = entered (began c) .args in
     c .place-right .ensures
-    ∙ ap (test n) (board-here (a .kind) (a .m) (a .o) (n .before .before .before .before .table-of .result) (located n) (c .before .seek .result) (c .before .before .before .loop .r) (c .before .seek .ensures .0))
+    ∙ ap (test (began c)) (board-here (a .kind) (a .m) (a .o) (own (began c)) (located (began c)) (c .before .seek .result) (c .before .before .before .loop .r)
+    (c .before .seek .ensures .0))
 
 returns : tie.Need-returns Inv-loop μ-loop
 returns c =
@@ -142,12 +149,14 @@ place-right-requires c κs =
     let n = x .before in
     let s = entered n in
     let a = s .args in
-    let t = n .before .before .before .before .table-of .result in (
+    let t = own n in (
       s .pre .0,
-      (s .pre .1 .0,
-      table-is (a .kind) (a .m) (a .o) t (located n) (s .pre .1 .1) (n .before .before .before .start .result) (n .before .before .before .start .ensures .0),
-      stands-in (a .kind) (a .m) (a .o) t (located n) (c .seek .result) (x .loop .r) (omega (arith, c .before .loop-test .taken, x .loop .inv .0))
-          (c .seek .ensures .0) (c .seek .ensures .1)),
+      (
+        s .pre .1 .0,
+        table-is (a .kind) (a .m) (a .o) t (located n) (s .pre .1 .1) (n .before .before .before .start .result) (n .before .before .before .start .ensures .0),
+        stands-in (a .kind) (a .m) (a .o) t (located n) (c .seek .result) (x .loop .r) (omega (arith, c .before .loop-test .taken, x .loop .inv .0))
+            (c .seek .ensures .0) (c .seek .ensures .1),
+      ),
     )
 
 add-r : tie.Need-add-r Inv-loop μ-loop
