@@ -95,9 +95,9 @@ pub fn of_check(binomials: &[u32; 625], rings: u8, edition: u8, k: u8, length: u
     requires { ⌜ BinomialTable (now binomials) ⌝ }
     ensures { λ r. ⌜ r ≡ refusal (checkPicks rings edition k length) ⌝ }
 {
-    let refusal = board_refusals::of_edition(rings, edition);
-    if refusal != 0 {
-        return refusal;
+    let first = board_refusals::of_edition(rings, edition);
+    if first != 0 {
+        return first;
     }
     of_largest(binomials, rings, k, false, length)
 }
