@@ -83,6 +83,13 @@ uint8_t morris_lookup(uint8_t rings, uint8_t edition, const uint8_t *board, size
 uint8_t morris_best_move(uint8_t rings, uint8_t edition, const uint8_t *board, size_t board_len, uint8_t k, const uint16_t *tablebase,
                          size_t tablebase_len, uint16_t *number, uint16_t *entry);
 
+/* Whether every entry of a tablebase of largest count k, whoever filled it, is right under an edition by the entries of the successors: passed 1 and
+ * index 0, or passed 0 and the first index, counted in the tablebase, whose entry is not. Right is 0 for a blocked mover; odd n with a quickest lost
+ * successor of n - 1; even n above 0 with all successors won and the slowest at n - 1; a draw with no lost successor and at least one that is not
+ * won. Void is never right, and a void successor is neither won nor lost; a side with two stones counts as lost in 0. A tablebase that passes holds
+ * the true outcomes under that edition. Refusals 1, 20, 11, 6. */
+uint8_t morris_check(uint8_t rings, uint8_t edition, uint8_t k, const uint16_t *tablebase, size_t tablebase_len, uint8_t *passed, uint64_t *index);
+
 /* Reads a frame: the rings, the mover's points and the opponent's points, as point sets. Refusals 14, 1, 2, 3, 4. */
 uint8_t morris_read_frame(const uint8_t *frame, size_t frame_len, uint8_t *rings, uint32_t *mover, uint32_t *opponent);
 

@@ -29,6 +29,7 @@ extern "C" {
         number: *mut u16,
         entry: *mut u16,
     ) -> u8;
+    pub fn morris_check(rings: u8, edition: u8, k: u8, tablebase: *const u16, tablebase_len: usize, passed: *mut u8, index: *mut u64) -> u8;
     pub fn morris_read_frame(frame: *const u8, frame_len: usize, rings: *mut u8, mover: *mut u32, opponent: *mut u32) -> u8;
     pub fn morris_write_frame(rings: u8, board: *const u8, board_len: usize, frame: *mut u8, frame_len: usize, written: *mut usize) -> u8;
 }

@@ -72,6 +72,13 @@ pub struct BestMove {
     pub entry: u16,
 }
 
+/// A tablebase passed the check, or the first index, counted in the tablebase, whose entry is not right.
+#[derive(Clone, Copy, Debug, PartialEq, Eq)]
+pub enum Checked {
+    Passed,
+    Fails(u64),
+}
+
 /// A position as its rings and two point sets: binary digit p says whether point p is in a set.
 #[derive(Clone, Copy, Debug, PartialEq, Eq)]
 pub struct Position {
@@ -165,6 +172,16 @@ pub fn best_move(rings: u8, edition: u8, board: &[u8], k: u8, tablebase: &[u16])
         )
     };
     answer(number, best)
+}
+
+/// Whether every entry of a tablebase of largest count k, whoever filled it, is right under an edition by the entries of the successors. Right is 0
+/// for a blocked mover; odd n with a quickest lost successor of n − 1; even n above 0 with all successors won and the slowest at n − 1; [`DRAW`] with
+/// no lost successor and at least one that is not won. [`VOID`] is never right, and a void successor is neither won nor lost; a side with two stones
+/// counts as lost in 0. A tablebase that passes holds the true outcomes under that edition. Refusals 1, 20, 11, 6.
+pub fn check(rings: u8, edition: u8, k: u8, tablebase: &[u16]) -> Result<Checked, Refused> {
+    let (mut passed, mut index) = (0, 0);
+    let number = unsafe { ffi::morris_check(rings, edition, k, tablebase.as_ptr(), tablebase.len(), &mut passed, &mut index) };
+    answer(number, if passed == 1 { Checked::Passed } else { Checked::Fails(index) })
 }
 
 /// Reads a frame. Refusals 14, 1, 2, 3, 4.

@@ -124,6 +124,25 @@ fn finds_best_moves() {
 }
 
 #[test]
+fn checks() {
+    let mut tablebase = filled(1);
+    assert_eq!(check(1, 1, 5, &tablebase), Ok(Checked::Passed));
+    assert_eq!(check(1, 1, 9, &tablebase), Ok(Checked::Passed));
+    tablebase[117] = 3;
+    assert_eq!(check(1, 1, 5, &tablebase), Ok(Checked::Fails(117)));
+    tablebase[117] = VOID;
+    assert_eq!(check(1, 1, 5, &tablebase), Ok(Checked::Fails(117)));
+    assert_eq!(check(1, 1, 5, &[DRAW; 1302]), Ok(Checked::Fails(0)));
+    assert_eq!(check(0, 1, 5, &tablebase), Err(Refused(1)));
+    assert_eq!(check(4, 3, 2, &[]), Err(Refused(1)));
+    assert_eq!(check(1, 1, 2, &tablebase), Err(Refused(11)));
+    assert_eq!(check(1, 1, 10, &[]), Err(Refused(11)));
+    assert_eq!(check(1, 1, 4, &tablebase), Err(Refused(6)));
+    assert_eq!(check(1, 1, 5, &tablebase[1..]), Err(Refused(6)));
+    assert_eq!(check(1, 1, 5, &[]), Err(Refused(6)));
+}
+
+#[test]
 fn reads_and_writes_frames() {
     assert_eq!(
         read_frame(b"018526"),
@@ -178,6 +197,13 @@ fn fills_and_reads_by_edition() {
     );
     assert_eq!(best_move(1, 1, &SHIELDED, 5, &first), Ok(BestMove { number: 3232, entry: 0 }));
     assert_eq!(best_move(1, 2, &SHIELDED, 5, &second), Ok(BestMove { number: 3263, entry: DRAW }));
+    assert_eq!(
+        (check(1, 1, 5, &first), check(1, 2, 5, &second)),
+        (Ok(Checked::Passed), Ok(Checked::Passed))
+    );
+    for (edition, other) in [(2, &first), (1, &second)] {
+        assert!(matches!(check(1, edition, 5, other), Ok(Checked::Fails(_))));
+    }
 }
 
 #[test]
@@ -191,18 +217,20 @@ fn refuses_other_editions() {
         assert_eq!(fill_pair(1, edition, 3, 3, 5, 2000, &mut tablebase), Err(Refused(20)));
         assert_eq!(lookup(1, edition, &BOARD, 5, &tablebase), Err(Refused(20)));
         assert_eq!(best_move(1, edition, &BOARD, 5, &tablebase), Err(Refused(20)));
+        assert_eq!(check(1, edition, 5, &tablebase), Err(Refused(20)));
     }
     assert_eq!((list, target, tablebase), ([7; MOVES_MAX], [7; 8], before));
     assert_eq!(moves(4, 3, &BOARD, &mut list), Err(Refused(1)));
     assert_eq!(moves(1, 0, &BOARD[..7], &mut list), Err(Refused(20)));
     assert_eq!(fill(1, 0, 2, 65_534, &mut []), Err(Refused(20)));
     assert_eq!(fill_pair(1, 3, 2, 2, 2, 65_534, &mut []), Err(Refused(20)));
+    assert_eq!(check(1, 3, 2, &[]), Err(Refused(20)));
 }
 
 #[test]
 fn refused_values_are_zero() {
     let tablebase = [7u16; 3];
-    let (mut rank, mut count, mut written) = (7u64, 7usize, 7usize);
+    let (mut rank, mut count, mut written, mut passed, mut index) = (7u64, 7usize, 7usize, 7u8, 7u64);
     let (mut number, mut entry, mut rings, mut mover, mut opponent) = (7u16, 7u16, 7u8, 7u32, 7u32);
     let (board, len) = (BOARD.as_ptr(), BOARD.len());
     unsafe {
@@ -221,6 +249,8 @@ fn refused_values_are_zero() {
             6
         );
         assert_eq!((number, entry), (0, 0));
+        assert_eq!(ffi::morris_check(1, 1, 5, tablebase.as_ptr(), 3, &mut passed, &mut index), 6);
+        assert_eq!((passed, index), (0, 0));
         assert_eq!(ffi::morris_read_frame(b"018527".as_ptr(), 6, &mut rings, &mut mover, &mut opponent), 3);
         assert_eq!((rings, mover, opponent), (0, 0, 0));
         assert_eq!(ffi::morris_write_frame(1, board, len, [0; 5].as_mut_ptr(), 5, &mut written), 7);
