@@ -4,6 +4,7 @@
 #include "images.hpp"
 #include "ranks.hpp"
 #include "scan.hpp"
+#include "successors.hpp"
 #include "walk.hpp"
 
 #include <algorithm>
@@ -214,36 +215,14 @@ class Filling {
     }
 
     bool won(Position at) const {
-        return any_successor(at, [depth = level_ - 1](uint16_t entry) { return entry == depth; });
+        return successors().any(at, [depth = level_ - 1](uint16_t entry) { return entry == depth; });
     }
 
     bool lost(Position at) const {
-        return !any_successor(at, [depth = level_ - 1](uint16_t entry) { return entry % 2 == 0 || entry > depth; });
+        return !successors().any(at, [depth = level_ - 1](uint16_t entry) { return entry % 2 == 0 || entry > depth; });
     }
 
-    // Calls `settles` with the entries of the successors until it is true; returns whether it was.
-    template <class Settles> bool any_successor(Position at, const Settles &settles) const {
-        MovedRanks<1> ranks({at.opponent, at.mover});
-        uint32_t free = board_.vacant(at);
-        for (uint32_t from_set = at.mover; from_set;) {
-            int from = pop(from_set);
-            uint32_t others = at.mover & ~(1u << from);
-            for (uint32_t to_set = flies() ? free : free & board_.neighbours(from); to_set;) {
-                int to = pop(to_set);
-                if (board_.closes(others, to) ? any_removal(at.opponent, others | 1u << to, settles)
-                                              : settles(side_.moved.entries[ranks.rank(from, to)]))
-                    return true;
-            }
-        }
-        return false;
-    }
-
-    template <class Settles> bool any_removal(uint32_t theirs, uint32_t moved, const Settles &settles) const {
-        if (!side_.lower.entries) return settles(0);
-        for (uint32_t rest = board_.removable(theirs); rest;)
-            if (settles(side_.lower.entries[board_.rank({theirs & ~(1u << pop(rest)), moved})])) return true;
-        return false;
-    }
+    Successors successors() const { return {board_, side_.table.mover, side_.moved.entries, side_.lower.entries}; }
 
     const Board &board_;
     Images images_;
