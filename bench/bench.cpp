@@ -13,6 +13,7 @@ int main(int argc, char **argv) {
     if (large) return bench::compare_large() != 0;
     size_t differ = bench::compare_fills(small);
     differ += bench::compare_pairs(small);
+    differ += bench::compare_checks(small);
     differ += bench::compare_calls();
     return differ != 0;
 }

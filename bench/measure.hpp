@@ -43,6 +43,7 @@ class Memory {
 // The tables. Each returns how many results differ; `small`: whether only the small tablebases are to be filled.
 size_t compare_fills(bool small);
 size_t compare_pairs(bool small);
+size_t compare_checks(bool small);
 size_t compare_calls();
 size_t compare_large();
 
