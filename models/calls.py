@@ -4,6 +4,7 @@ elsewhere" after a refusal; then, where the call has a target, what the target h
 import classes
 import frames
 from board import MOVER, OPPONENT, counts, points_of, unreachable
+from certificates import first_failing
 from entries import DRAW, HIGHEST_LIMIT, VOID, best, choices, entry_of
 from fills import lower_places, pair_depths, pair_places, whole_depths
 from plies import after, listed, number, numbered
@@ -141,6 +142,16 @@ def fill_pair(rings, edition, mover, opponent, k, limit, tablebase):
         return refusal, tablebase
     depth = pair_depths(rings, edition, k, mover, opponent, tablebase)
     return filled(pair_places(rings, k, mover, opponent), depth, limit, tablebase)
+
+
+# Document 02, A8: "reads a shelf and passes it or gives the first index that fails". Its values are 1 and 0 for passed, else 0
+# and the index. "Arguments meet the refusals of a shelf fill except limit and depth."
+def check(rings, edition, k, tablebase):
+    refusal = first_refusal(about_edition(edition) | about_tablebase(rings, k, (), tablebase))
+    if refusal:
+        return refusal, 0, 0
+    index = first_failing(rings, edition, k, tablebase)
+    return (0, 1, 0) if index is None else (0, 0, index)
 
 
 # "It is also held as two point sets": a number whose binary digit p says whether point p is in the set.
