@@ -7,4 +7,5 @@ fn main() {
     fill_cases::run();
     entry_cases::run();
     agreement_cases::run();
+    check_cases::run();
 }

@@ -6,5 +6,6 @@ pub use fills::hold;
 pub use fills::make_up;
 pub use fills::put;
 pub use fills::run;
+pub use sums::DRAW_ENTRY;
 pub use sums::VOID_ENTRY;
 pub use sums::contents;
