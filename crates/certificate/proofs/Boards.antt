@@ -18,6 +18,7 @@ use Rattle.board.specs.Board.{count}
 use Rattle.ranking.specs.Rank.{rank}
 use Rattle.ranking.specs.Unrank.{unrank}
 use Rattle.layout.specs.Layout.{Table, table, stones, row, tables, entries, tablebaseLength}
+use Rattle.layout.proofs.Places.{tables-kept, length-is}
 use Rattle.layout.proofs.OneToOne.{in-range, table-listed, listed-table}
 use Rattle.outcomes.specs.Filled.{AllTables}
 use Rattle.outcomes.proofs.Boards.{InTables}
@@ -75,6 +76,10 @@ module _ (points : ℕ) where
           ∙ sym (ap (λ (n : ℕ). map (λ i. unrank points (t .mover) (t .opponent) i) (range 0 n) ++ boards-of ts)
           (size-over points (t .mover) (t .opponent) (leb-false (t .mover + t .opponent) points e)))
 
+  boards-kept : (k : ℕ) → boards points k ≡ boards-of (each (λ m. row k m) (stones k))
+  unfolding boards
+  boards-kept k = ap boards-of (tables-kept points k) ∙ boards-fit (each (λ m. row k m) (stones k))
+
   -- row after row
   rows-boards : (k : ℕ) (ms : List ℕ) → boards-of (each (λ m. row k m) ms) ≡ each (λ m. boards-of (row k m)) ms
   rows-boards k [] = refl
@@ -82,8 +87,7 @@ module _ (points : ℕ) where
       each-append (λ t. boardsOf points t) (row k m) (each (λ x. row k x) ms) ∙ ap (λ (l : List (List ℕ)). boards-of (row k m) ++ l) (rows-boards k ms)
 
   boards-rows : (k : ℕ) → boards points k ≡ each (λ m. each (λ t. boardsOf points t) (row k m)) (stones k)
-  unfolding boards tables
-  boards-rows k = boards-fit (each (λ m. row k m) (stones k)) ∙ rows-boards k (stones k)
+  boards-rows k = boards-kept k ∙ rows-boards k (stones k)
 
   -- a table rank by rank, a row table by table, and a tablebase row by row
   pub all-ranks : (m o : ℕ) → partsFrom (λ r. unrank points m o r ∷ []) 0 (size points m o) ≡ boardsOf points (table m o)
@@ -102,5 +106,4 @@ module _ (points : ℕ) where
       ap (λ (n : ℕ). each (λ m. each (λ t. boardsOf points t) (row k m)) (range 3 n)) e ∙ sym (boards-rows k)
 
   pub boards-all : (k : ℕ) → length (boards points k) ≡ tablebaseLength points k
-  unfolding boards tablebaseLength
-  boards-all k = boards-length (tables points k)
+  boards-all k = ap length (boards-kept k) ∙ boards-length (each (λ m. row k m) (stones k)) ∙ sym (length-is points k)

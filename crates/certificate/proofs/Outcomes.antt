@@ -28,6 +28,12 @@ use Rattle.certificate.specs.Certificate.{boards, entryRight}
 use Rattle.certificate.proofs.Judged.{right-judged, judged-right}
 use Rattle.certificate.proofs.Boards.{tables-listed, listed-board}
 
+-- what it is for the entry of a board to be right
+pub entry-right : (rule : Rule) (rings k : ℕ) (tablebase b : List ℕ) → entryRight rule rings k tablebase b
+    ≡ right (entryAt rings k tablebase b) (map (λ c. successorEntry rings k tablebase c) (successors rule rings b))
+unfolding entryRight
+entry-right rule rings k tablebase b = refl
+
 module _ (rule : Rule) (takes : TakesOpponent rule) (rings k : ℕ) (small : rings ≤ 3) (tablebase : List ℕ) where
   -- the entry by which a board is judged, and what its successors judge it to be
   abbrev entry : List ℕ → ℕ
@@ -39,16 +45,12 @@ module _ (rule : Rule) (takes : TakesOpponent rule) (rings k : ℕ) (small : rin
   own-entry : (b : List ℕ) → InTables rings k b → entry b ≡ entryAt rings k tablebase b
   own-entry b s = entry-three rings k tablebase b (s .is-table .mover-low)
 
-  right-is : (b : List ℕ) → entryRight rule rings k tablebase b ≡ right (entryAt rings k tablebase b) (map entry (successors rule rings b))
-  unfolding entryRight
-  right-is b = refl
-
   module _ (passed : all (λ b. entryRight rule rings k tablebase b) (boards (8 * rings) k) ≡ true) where
     -- a board of the tablebase has what its successors judge, and no void
     board-right : (b : List ℕ) → InTables rings k b → (entry b ≡ judgement b) × (entry b ≡ voidEntry → ⊥)
     board-right b s =
         let (e, v) = right-judged (successors rule rings) entry b (entryAt rings k tablebase b)
-        (sym (right-is b) ∙ all-member _ (boards (8 * rings) k) passed b (tables-listed rings k b s)) in
+        (sym (entry-right rule rings k tablebase b) ∙ all-member _ (boards (8 * rings) k) passed b (tables-listed rings k b s)) in
         (own-entry b s ∙ e, λ z. v (sym (own-entry b s) ∙ z))
 
     -- where the plies decide, the board is one of the tablebase
@@ -70,7 +72,7 @@ module _ (rule : Rule) (takes : TakesOpponent rule) (rings k : ℕ) (small : rin
       at : (b : List ℕ) → InTables rings k b → entryRight rule rings k tablebase b ≡ true
       at b s =
           let w = board-reached rings k b s in
-          right-is b
+          entry-right rule rings k tablebase b
           ∙ judged-right (successors rule rings) entry b (entryAt rings k tablebase b)
           (sym (own-entry b s) ∙ passes (successors rule rings) (λ c. wholeSeed c) (Reached rings k) (whole-ground rule takes rings k small) entry
           (λ c v. reached-true rule takes rings k tablebase entries c v) b w (whole-live b (s .is-table .mover-low)))

@@ -1,6 +1,6 @@
 -- What `check` certifies under the edition of the call: a tablebase that passes is the one tablebase of true outcomes, whoever made it; that tablebase
 -- always passes, and so does what an accepted fill leaves; and an index that is given is that of the first entry that is not right. Assumes nothing.
-use mathlib.Core.Path.{_≡_, refl, sym, ap, subst, _∙_}
+use mathlib.Core.Path.{_≡_, refl, sym, subst}
 use mathlib.Core.Bool.{Bool, true, false}
 use mathlib.Core.List.{List, [], _∷_}
 use mathlib.Core.Logic.{_⊎_, inl, inr}
@@ -24,12 +24,12 @@ use Rattle.certificate.proofs.Verdict.{passed-verdict, failed-verdict, verdict-
 use Rattle.certificate.proofs.Outcomes.{passed-true, true-passed}
 use Rattle.certificate.proofs.Places.{FailsFirst, fails-first}
 use Rattle.answers.specs.Answers.{Answer, accepted}
-use Rattle.answers.proofs.Answering.{answer-accepted, accepted-values}
 use Rattle.refusals.specs.Refusals.{refusal}
 use Rattle.refusals.specs.Conditions.{fillPicks, checkPicks}
 use Rattle.refusals.proofs.TablebaseConditions.{AcceptedCheck, accepted-check, fill-check}
 use Rattle.fill_calls.specs.Fills.{FillCall}
 use Rattle.check_calls.specs.CheckCall.{checkCall}
+use Rattle.check_calls.proofs.Answered.{check-answers, check-answered}
 use Rattle.fill_calls.proofs.Promised as promised
 
 -- "passes it or gives the first index that fails", as the call answers it
@@ -44,17 +44,15 @@ module _ (rings edition k : ℕ) (tablebase : List ℕ) where
   test b = entryRight (removable edition) rings k tablebase b
 
   -- an accepted check answers the verdict, and was not turned back
-  verdict-is : (values : List ℕ) → accepted values ≡ checkCall rings edition k tablebase
+  verdict-is : (values : List ℕ) → checkCall rings edition k tablebase ≡ accepted values
       → AcceptedCheck rings edition k (length tablebase) × (certificate (removable edition) rings k tablebase ≡ values)
-  unfolding checkCall
   verdict-is values e =
-      let (z, v) = accepted-values values (certificate (removable edition) rings k tablebase) (refusal (checkPicks rings edition k (length tablebase))) e in
-      (accepted-check rings edition k (length tablebase) z, sym v)
+      let (z, v) = check-answered rings edition k tablebase values (sym e) in
+      (accepted-check rings edition k (length tablebase) z, v)
 
   answer-is : refusal (checkPicks rings edition k (length tablebase)) ≡ 0 → (values : List ℕ)
       → certificate (removable edition) rings k tablebase ≡ values → checkCall rings edition k tablebase ≡ accepted values
-  unfolding checkCall
-  answer-is z values e = sym (answer-accepted _ _ (sym z)) ∙ ap accepted e
+  answer-is z values e = sym (check-answers rings edition k tablebase (sym z) values e)
 
   -- what no refusal turns back is passed, or fails at some index
   pub passed-or-fails : refusal (checkPicks rings edition k (length tablebase)) ≡ 0
@@ -69,17 +67,17 @@ module _ (rings edition k : ℕ) (tablebase : List ℕ) where
   -- an index that is given is the place of an entry that is not right, and every entry before it is right
   pub fails-at-first : (i : ℕ) → checkCall rings edition k tablebase ≡ failsAt i → FailsFirst (removable edition) rings k tablebase i
   fails-at-first i e =
-      let (w, v) = verdict-is (0 ∷ i ∷ []) (sym e) in
+      let (w, v) = verdict-is (0 ∷ i ∷ []) e in
       fails-first (removable edition) rings k tablebase i (w .tablebase .largest-low) v
 
-  -- "A passed shelf is the one shelf of true outcomes, whoever made it"
+  -- document 02, A8: "A passed shelf is the one shelf of true outcomes, whoever made it"
   module _ (e : checkCall rings edition k tablebase ≡ passed) where
     accepted-tablebase : AcceptedCheck rings edition k (length tablebase)
-    accepted-tablebase = verdict-is (1 ∷ 0 ∷ []) (sym e) .0
+    accepted-tablebase = verdict-is (1 ∷ 0 ∷ []) e .0
 
     pub passed-entries : TrueEntries (removable edition) rings k (AllTables rings k) tablebase
     passed-entries =
-        let (w, v) = verdict-is (1 ∷ 0 ∷ []) (sym e) in
+        let (w, v) = verdict-is (1 ∷ 0 ∷ []) e in
         passed-true (removable edition) (removable-takes edition) rings k (w .tablebase .rings-high) tablebase
         (verdict-passed (removable edition) rings k tablebase v)
 
@@ -109,7 +107,7 @@ module _ (rings edition k : ℕ) (tablebase : List ℕ) where
             λ w. draw-entry (successors (removable edition) rings) (λ b. wholeSeed b) position a w,
           )
 
-  -- "the shelf of true outcomes always passes"
+  -- document 02, A8: "the shelf of true outcomes always passes"
   pub true-passes : refusal (checkPicks rings edition k (length tablebase)) ≡ 0 → TrueEntries (removable edition) rings k (AllTables rings k) tablebase
       → checkCall rings edition k tablebase ≡ passed
   true-passes z entries =

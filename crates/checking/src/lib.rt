@@ -5,7 +5,6 @@ ghost use lib.ListN.{length};
 ghost use Rattle.lists.specs.Lists.{each};
 ghost use Rattle.ranking.specs.Unrank.{unrank};
 ghost use Rattle.layout.specs.Layout.{row, table};
-ghost use Rattle.layout.proofs.OneToOne.{InRange};
 ghost use Rattle.rules.specs.Ply.{removable};
 ghost use Rattle.probing.specs.Inner.Conditions.{Lent};
 ghost use Rattle.certificate.specs.Certificate.{boardsOf, boards, entryRight};
@@ -70,7 +69,7 @@ fn check_table(
     o: usize,
 ) -> Passed
     requires { ⌜ Lent (kind .rings) (now binomials) (now masks) ⌝ }
-    requires { ⌜ Whole (length (now tablebase)) kind × InRange (kind .k) m o ⌝ }
+    requires { ⌜ Whole (length (now tablebase)) kind × (3 ≤ m) × (m ≤ kind .k) × (3 ≤ o) × (o ≤ kind .k) ⌝ }
     ensures { λ p. ⌜ Tested (entryRight (removable (kind .edition)) (kind .rings) (kind .k) (now (tablebase .entry)))
         (boardsOf (8 * kind .rings) (table m o)) p ⌝ }
 {

@@ -125,6 +125,11 @@ module _ (m o : ℕ) where
       (keep-append (λ t. is-earlier t) (row k m) (each (λ x. row k x) (range (suc m) (k - m)))
       ∙ ap₂ (λ (x y : List Table). x ++ y) r (rows-after k (k - m) (suc m) (omega arith)) ∙ append-nil (map (λ x. table m x) (range 3 (o - 3))))
 
+-- the tables of a tablebase are those of its rows whose stones fit the points
+pub tables-kept : (points k : ℕ) → tables points k ≡ keep (λ t. leb (t .mover + t .opponent) points) (each (λ m. row k m) (stones k))
+unfolding tables
+tables-kept points k = refl
+
 -- the start of a table, and the length of a tablebase, as sums over rows
 pub start-is : (points k m o : ℕ) → 3 ≤ m → m ≤ k → 3 ≤ o → o ≤ k
     → start points k m o ≡ rowsPart points k (m - 3) + rowPart points m (o - 3)

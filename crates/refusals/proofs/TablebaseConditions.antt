@@ -10,8 +10,7 @@ use lib.ListN.{length}
 use borrow.Author.Tests.{ltb-false, le-ltb, eqb-true, eq-eqb, not-false}
 use Rattle.lists.proofs.Tests.{or-left, or-right}
 use Rattle.board.specs.Board.{count}
-use Rattle.sizes.specs.Size.{size}
-use Rattle.layout.specs.Layout.{tables, tablebaseLength}
+use Rattle.layout.specs.Layout.{tablebaseLength}
 use Rattle.layout.proofs.OneToOne.{IsTable}
 use Rattle.rules.specs.Ply.{removable}
 use Rattle.outcomes.specs.Places.{entryAt, isVoid, successorVoid, lowerVoid}
@@ -128,9 +127,8 @@ entry-passes rings edition b k n d u a s =
 
 -- 1, 20, 11 and 6 of a check, the first of those that are met
 pub check-cases : (refusal (checkPicks 4 3 2 0) ≡ 1) × (refusal (checkPicks 1 3 2 0) ≡ 20) × (refusal (checkPicks 1 2 10 0) ≡ 11)
-    × (refusal (checkPicks 1 1 3 559) ≡ 6) × (refusal (checkPicks 1 1 3 560) ≡ 0)
-unfolding tablebaseLength tables size
-check-cases = (refl, refl, refl, refl, refl)
+    × ((n : ℕ) → refusal (checkPicks 1 1 3 n) ≡ cond (tablebaseWrong 1 3 n) 6 0)
+check-cases = (refl, refl, refl, λ n. first-cons (tablebaseWrong 1 3 n) 6 [])
 
 -- an accepted tablebase to check
 pub record AcceptedCheck (rings edition k n : ℕ) : Type 0 where

@@ -67,18 +67,8 @@ loop-again c =
 check-table-requires : tie.Need-check-table-requires Inv-loop μ-loop
 check-table-requires c κs =
     let x = c .before .before in
-    let p = x .before .before .pre in (
-      p .0,
-      (
-        p .1 .0,
-        record {
-          mover-low = p .1 .1;
-          mover-high = p .1 .2;
-          opponent-low = x .loop .inv .0;
-          opponent-high = omega (arith, c .if1 .taken);
-        },
-      ),
-    )
+    let p = x .before .before .pre in
+    (p .0, (p .1 .0, p .1 .1, p .1 .2, x .loop .inv .0, omega (arith, c .if1 .taken)))
 
 -- the entries of a row are no more than those of the tablebase
 add-count : tie.Need-add-count Inv-loop μ-loop

@@ -116,16 +116,14 @@ mul-points c = let s = c .before .before in omega (arith, s .pre .1 .0 .small)
 table-of-requires : tie.Need-table-of-requires Inv-loop μ-loop
 table-of-requires c κs =
     let s = c .before .before in
-    let w = s .pre .1 .0 in
-    let r = s .pre .1 .1 in
-    (s .pre .0 .binomials, (omega (arith, w .small), w .largest-high, r .mover-low, r .mover-high, r .opponent-low, r .opponent-high))
+    let p = s .pre .1 in
+    (s .pre .0 .binomials, (omega (arith, p .0 .small), p .0 .largest-high, p .1, p .2, p .3, p .4))
 
 start-requires : tie.Need-start-requires Inv-loop μ-loop
 start-requires c κs =
     let s = c .before .before .before in
-    let w = s .pre .1 .0 in
-    let r = s .pre .1 .1 in
-    (s .pre .0 .binomials, (omega (arith, w .small), w .largest-high, r .opponent-low, r .opponent-high, r .mover-low, r .mover-high))
+    let p = s .pre .1 in
+    (s .pre .0 .binomials, (omega (arith, p .0 .small), p .0 .largest-high, p .3, p .4, p .1, p .2))
 
 sub-size : tie.Need-sub-size Inv-loop μ-loop
 sub-size c =
@@ -149,11 +147,13 @@ place-right-requires c κs =
     let n = x .before in
     let s = entered n in
     let a = s .args in
+    let p = s .pre .1 in
     let t = own n in (
       s .pre .0,
       (
         s .pre .1 .0,
-        table-is (a .kind) (a .m) (a .o) t (located n) (s .pre .1 .1) (n .before .before .before .start .result) (n .before .before .before .start .ensures .0),
+        table-is (a .kind) (a .m) (a .o) t (located n) (p .1, p .2, p .3, p .4) (n .before .before .before .start .result)
+            (n .before .before .before .start .ensures .0),
         stands-in (a .kind) (a .m) (a .o) t (located n) (c .seek .result) (x .loop .r) (omega (arith, c .before .loop-test .taken, x .loop .inv .0))
             (c .seek .ensures .0) (c .seek .ensures .1),
       ),

@@ -8,7 +8,6 @@ use Rattle.board.specs.Board.{positionOf}
 use Rattle.sizes.specs.Size.{size}
 use Rattle.ranking.specs.Unrank.{unrank}
 use Rattle.layout.specs.Layout.{start, tablebaseLength}
-use Rattle.layout.proofs.OneToOne.{InRange}
 use Rattle.tables.specs.declared.Table.{Table}
 use Rattle.tables.specs.Inner.Tables.{Located}
 use Rattle.seeking.specs.declared.Cursor.{Cursor}
@@ -25,7 +24,7 @@ pub record Whole (length : ℕ) (kind : Kind) : Type 0 where
 
 -- t is table (m, o), and the table of its successors without a removal starts at `same`
 pub record TableOf (kind : Kind) (m o : ℕ) (t : Table) (same : ℕ) : Type 0 where
-  pub range : InRange (kind .k) m o
+  pub bounds : (3 ≤ m) × (m ≤ kind .k) × (3 ≤ o) × (o ≤ kind .k)
   pub located : Located (8 * kind .rings) (kind .k) m o t
   pub same-is : same ≡ start (8 * kind .rings) (kind .k) o m
 
