@@ -1,5 +1,7 @@
 // The tablebases of the two solvers held against each other, entry by entry, under both editions: filled whole, and pairs over lower tables that are not
 // symmetric. Then the tablebases of the two editions held against each other.
+#![tactic(auto)]
+
 use fill_cases::{contents, hold, make_up, put};
 use notation::{add, end, least, print, text, wider};
 

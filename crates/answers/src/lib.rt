@@ -1,4 +1,5 @@
 // What the calls answer: an enum for each, its result or the number of the refusal met.
+#![tactic(auto)]
 
 // The rank of a board, or the number of a refusal.
 #[derive(Drop)]

@@ -1,4 +1,6 @@
 // A question to a position's successors: the entries that are asked for, and whether some move of a slide or of a stone leads to one.
+#![tactic(auto)]
+
 mod ranges;
 mod slides;
 

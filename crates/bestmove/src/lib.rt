@@ -1,4 +1,6 @@
 // The best move of a position by the entries of its successors.
+#![tactic(auto)]
+
 ghost use Rattle.std.specs.Prelude.{◌≡◌, true, false, map, ◌*◌, ltb, length};
 ghost use Rattle.board.specs.Board.{count, board_of};
 ghost use Rattle.rules.specs.Ply.{removable};

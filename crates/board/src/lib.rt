@@ -1,4 +1,6 @@
 // The board: a position as two point sets by value, from a board's bytes and back.
+#![tactic(auto)]
+
 ghost use Rattle.std.specs.Prelude.{◌≡◌, ◌≤◌, ◌<◌, length};
 ghost use Rattle.board.specs.Board.{set_of, position_of, value_at, board_of, OnBoard};
 

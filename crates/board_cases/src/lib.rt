@@ -1,4 +1,6 @@
 // Document 01's cases of classes and frames, a printed line for each.
+#![tactic(auto)]
+
 mod classes;
 mod frames;
 

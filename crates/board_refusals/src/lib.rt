@@ -1,4 +1,6 @@
 // The first refusal that rings and a board meet, or rings and counts, with an edition and a target or without.
+#![tactic(auto)]
+
 ghost use Rattle.std.specs.Prelude.{◌≡◌, ◌≤◌, length};
 ghost use Rattle.sets.specs.Sets.{members};
 ghost use Rattle.board.specs.Board.{count};

@@ -1,5 +1,7 @@
 // Runs document 01's cases and prints a line for each: the call, its arguments, then what it answered. What is printed is compared with the file
 // `stdout`; nothing of it is proved.
+#![tactic(auto)]
+
 fn main() {
     rank_cases::run();
     play_cases::run();

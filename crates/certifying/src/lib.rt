@@ -1,5 +1,7 @@
 // Whether an entry is right by the entries of a position's successors under an edition: a question after the other, and no further than the first that
 // settles it.
+#![tactic(auto)]
+
 ghost use Rattle.std.specs.Prelude.{◌≡◌, map, ◌*◌, ◌<◌, length};
 ghost use Rattle.board.specs.Board.{count, board_of};
 ghost use Rattle.rules.specs.Ply.{removable, successors};

@@ -1,4 +1,6 @@
 // A tablebase checked, whoever made it.
+#![tactic(auto)]
+
 ghost use Rattle.std.specs.Prelude.{◌≡◌};
 ghost use Rattle.answers.specs.Answers.{checked};
 ghost use Rattle.check_calls.specs.CheckCall.{check_call};

@@ -1,4 +1,6 @@
 // Document 02's check of tablebases, whoever made them: those that a fill makes, and others with entries that are not right. A printed line for each.
+#![tactic(auto)]
+
 mod changes;
 
 use changes::{Change, write_anew};

@@ -1,4 +1,6 @@
 // A tablebase checked entry by entry, in the order of its entries, up to the first that is not right.
+#![tactic(auto)]
+
 ghost use Rattle.std.specs.Prelude.{◌≡◌, ◌*◌, ◌≤◌, length};
 ghost use Rattle.lists.specs.Lists.{each};
 ghost use Rattle.ranking.specs.Unrank.{unrank};

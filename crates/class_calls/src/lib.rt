@@ -1,4 +1,6 @@
 // The representative of a board's class.
+#![tactic(auto)]
+
 ghost use Rattle.std.specs.Prelude.{◌≡◌};
 ghost use Rattle.answers.specs.Answers.{represented};
 ghost use Rattle.class_calls.specs.RepresentativeCall.{representative_call};

@@ -1,4 +1,6 @@
 // The class of a position, image after image: whether it is the least, and an entry written at all of them.
+#![tactic(auto)]
+
 ghost use Rattle.std.specs.Prelude.{◌≡◌, ◌*◌, length};
 ghost use Rattle.board.specs.Board.{board_of};
 ghost use Rattle.classing.specs.Inner.Classes.{least_of_class, images_written};

@@ -1,5 +1,7 @@
 // Whether a table has one entry for all images of a position. Only the positions that are no draws are looked at: the image of a draw is one, if no
 // image of another position is.
+#![tactic(auto)]
+
 ghost use Rattle.std.specs.Prelude.{◌≡◌, ◌+◌, ◌*◌, ◌≤◌, ◌<◌, length};
 ghost use Rattle.board.specs.Board.{board_of};
 ghost use Rattle.sizes.specs.Size.{size};

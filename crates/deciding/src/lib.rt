@@ -1,4 +1,6 @@
 // The open positions of a table, and whether the successors of one decide it.
+#![tactic(auto)]
+
 ghost use Rattle.std.specs.Prelude.{◌≡◌, ◌+◌, ◌-◌, ◌*◌, ◌<◌, length};
 ghost use Rattle.sizes.specs.Size.{size};
 ghost use Rattle.rules.specs.Ply.{removable};

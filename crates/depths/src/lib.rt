@@ -1,4 +1,6 @@
 // The depths that stand in the tables of a pair: whether a level beyond the limit wrote any, and the least from a level on.
+#![tactic(auto)]
+
 ghost use Rattle.std.specs.Prelude.{◌≡◌, ◌<◌, min, length};
 ghost use Rattle.game.specs.Game.{void_entry};
 ghost use Rattle.pairs.specs.Inner.Pairs.{PartIn, InRoom};

@@ -1,4 +1,6 @@
 // The program `desk` (document 01, "Frames"). It is run on the sample there, whose last line has no line feed.
+#![tactic(auto)]
+
 fn main() {
     session::run();
 }

@@ -1,4 +1,6 @@
 // Level 0 at one position of a table: the game has ended where the mover is blocked.
+#![tactic(auto)]
+
 ghost use Rattle.std.specs.Prelude.{◌≡◌, ◌-◌, ◌*◌, ◌≤◌, ◌<◌, length};
 ghost use Rattle.board.specs.Board.{position_of};
 ghost use Rattle.sizes.specs.Size.{size};

@@ -1,4 +1,6 @@
 // A position in a whole tablebase: its entry, and its best move.
+#![tactic(auto)]
+
 ghost use Rattle.std.specs.Prelude.{◌≡◌, ◌*◌, length};
 ghost use Rattle.board.specs.Board.{board_of};
 ghost use Rattle.rules.specs.Ply.{removable};

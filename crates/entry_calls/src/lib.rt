@@ -1,4 +1,6 @@
 // The entry of a board in a tablebase, and its best move under a rules edition.
+#![tactic(auto)]
+
 ghost use Rattle.std.specs.Prelude.{◌≡◌};
 ghost use Rattle.answers.specs.Answers.{looked, chosen};
 ghost use Rattle.entry_calls.specs.LookupCall.{lookup_call};

@@ -1,4 +1,6 @@
 // Document 01's cases of entries looked up and of best moves, in a tablebase of one ring, a printed line for each.
+#![tactic(auto)]
+
 use fill_cases::{VOID_ENTRY, make_up};
 use morris::{Chosen, Looked, Unranked};
 use notation::{

@@ -1,4 +1,6 @@
 // The rank, the entry and the best move that a line shows of a board, each by the public call.
+#![tactic(auto)]
+
 ghost use Rattle.std.specs.Prelude.{◌≡◌, not, eqb};
 ghost use Rattle.answers.specs.Answers.{value};
 ghost use Rattle.rank_calls.specs.RankCall.{rank_call};

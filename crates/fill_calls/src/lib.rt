@@ -1,4 +1,6 @@
 // A tablebase filled whole, or a pair of its tables.
+#![tactic(auto)]
+
 mod pair;
 mod whole;
 

@@ -1,4 +1,6 @@
 // Document 01's cases of tablebases filled, a printed line for each.
+#![tactic(auto)]
+
 mod fills;
 mod sums;
 

@@ -1,6 +1,8 @@
 // A pair of tables filled level by level: first every position is open, then each level writes what has that depth. Depths have gaps, so the next level is
 // one more than the least depth from the level on. The first level beyond the limit that writes anything shows a position that is too deep. Level
 // 65,534 is no entry: there one look decides.
+#![tactic(auto)]
+
 ghost use Rattle.std.specs.Prelude.{◌<◌};
 ghost use Rattle.rules.specs.Ply.{removable};
 ghost use Rattle.probing.specs.Inner.Conditions.{Lent};

@@ -1,4 +1,6 @@
 // Entries sought in a tablebase: the first place of one, the least depth in a table, a void.
+#![tactic(auto)]
+
 ghost use Rattle.std.specs.Prelude.{◌≡◌, ◌+◌, ◌≤◌, length, nat_eq};
 ghost use Rattle.lists.specs.Lists.{any};
 ghost use Rattle.game.specs.Game.{void_entry};

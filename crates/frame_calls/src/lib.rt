@@ -1,4 +1,6 @@
 // Frames, read and written.
+#![tactic(auto)]
+
 mod reader;
 
 ghost use Rattle.std.specs.Prelude.{◌≡◌};

@@ -1,4 +1,6 @@
 // Frames read: what is wrong with a frame's characters, its rings, and the points that hold a value.
+#![tactic(auto)]
+
 ghost use Rattle.std.specs.Prelude.{◌≡◌, false, ◌∷◌, [], ◌+◌, ◌*◌, ◌≤◌, ◌<◌, length, get_or};
 ghost use Rattle.board.specs.Board.{digit, set_of};
 ghost use Rattle.frames.specs.Frame.{outside, any_outside, frame_wrong, frame_length, value_of, byte_of, points_in, rings_in, board_in};

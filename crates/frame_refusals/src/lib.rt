@@ -1,4 +1,6 @@
 // The first refusal that a frame meets before its stones are counted.
+#![tactic(auto)]
+
 ghost use Rattle.std.specs.Prelude.{◌≡◌};
 ghost use Rattle.refusals.specs.Refusals.{refusal};
 ghost use Rattle.refusals.specs.Conditions.{frame_picks};

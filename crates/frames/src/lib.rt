@@ -1,5 +1,7 @@
 // Frames: rings and a board as a line of characters. Definitions, laws and the length; frames are read and written in `frame_reading` and
 // `frame_writing`.
+#![tactic(auto)]
+
 ghost use Rattle.std.specs.Prelude.{◌≡◌};
 ghost use Rattle.frames.specs.Frame.{frame_length};
 

@@ -1,5 +1,7 @@
 // The board's geometry: neighbours and mills as fixed tables by point number (document 01, "The board"). An index into a constant makes the whole
 // table anew, so a call takes a table as a value once and lends it down; its rule goes with it as what the borrower requires.
+#![tactic(auto)]
+
 ghost use Rattle.std.specs.Prelude.{◌≡◌, [], ◌<◌, length, get_or};
 ghost use Rattle.sets.specs.Sets.{set_from};
 ghost use Rattle.geometry.specs.Geometry.{neighbours, mills};

@@ -1,5 +1,7 @@
 // A pair over given lower tables: whether these hold a void, and by how many maps the pair may be filled. Given entries need not be the same for all
 // images of a position.
+#![tactic(auto)]
+
 ghost use Rattle.std.specs.Prelude.{◌≡◌, ◌-◌, ◌*◌, ◌≤◌, length};
 ghost use Rattle.sizes.specs.Inner.Binomial.{BinomialTable};
 ghost use Rattle.layout.specs.Layout.{tablebase_length};

@@ -1,4 +1,6 @@
 // Level 0 over a whole table, in two halves side by side.
+#![tactic(auto)]
+
 ghost use Rattle.std.specs.Prelude.{◌≡◌, ◌+◌, ◌-◌, ◌*◌, ◌≤◌, ◌<◌, length};
 ghost use Rattle.board.specs.Board.{position_of};
 ghost use Rattle.sizes.specs.Size.{size};

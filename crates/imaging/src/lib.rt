@@ -1,4 +1,6 @@
 // Images of positions, as sets: a ring's images looked up in a table that is made once.
+#![tactic(auto)]
+
 mod positions;
 mod rings;
 

@@ -1,5 +1,7 @@
 // The ranks of a position with one stone more, of one side, at one vacant point after the other from the lowest up. From point to point only what the
 // stones between the two add is reckoned again.
+#![tactic(auto)]
+
 ghost use Rattle.std.specs.Prelude.{◌≡◌, suc, ◌+◌, ◌≤◌, ◌<◌, set};
 ghost use Rattle.sets.specs.Sets.{members};
 ghost use Rattle.board.specs.Board.{digit, board_of};

@@ -1,4 +1,6 @@
 // What the entries of a position's successors under an edition say of it: whether they give it a depth, which one, and whether one of them is void.
+#![tactic(auto)]
+
 mod successors;
 
 ghost use Rattle.std.specs.Prelude.{◌≡◌, ◌*◌, ◌<◌, eqb, length};

@@ -1,4 +1,6 @@
 // Whether some move of a stone leads to an entry that is asked for, in one walk up its destinations: each rank is found from the one before.
+#![tactic(auto)]
+
 ghost use Rattle.std.specs.Prelude.{◌≡◌, ◌+◌, ◌*◌, length};
 ghost use Rattle.lists.specs.Lists.{any};
 ghost use Rattle.sets.specs.Sets.{elements};

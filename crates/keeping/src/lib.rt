@@ -1,4 +1,6 @@
 // What is kept of a line that is not yet ended.
+#![tactic(auto)]
+
 ghost use Rattle.std.specs.Prelude.{◌≡◌, ◌≤◌, length, take};
 ghost use Rattle.keeping.specs.Kept.{most_kept, keep_byte as Kept·keep};
 

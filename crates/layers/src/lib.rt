@@ -1,4 +1,6 @@
 // A layer: the positions of one depth in a table that plies lead to; and the open positions before them, marked.
+#![tactic(auto)]
+
 ghost use Rattle.std.specs.Prelude.{◌≡◌, ◌*◌, ◌≤◌, length};
 ghost use Rattle.board.specs.Board.{board_of};
 ghost use Rattle.sizes.specs.Size.{size};

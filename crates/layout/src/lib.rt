@@ -1,4 +1,6 @@
 // Where the tables of a tablebase (document 01: shelf) start, and how long it is.
+#![tactic(auto)]
+
 ghost use Rattle.std.specs.Prelude.{◌≡◌, map, ◌*◌, ◌^◌, ◌≤◌};
 ghost use Rattle.lists.specs.Lists.{range, each};
 ghost use Rattle.layout.specs.Layout.{table, row, entries, start, end, tablebase_length};

@@ -1,5 +1,7 @@
 // Input split into lines, block by block in constant memory: the lines that a block ends are answered, and of the line that it leaves unended the first
 // 65 bytes are kept.
+#![tactic(auto)]
+
 ghost use Rattle.std.specs.Prelude.{◌≡◌, ◌∷◌, [], ◌+◌, ◌*◌, ◌≤◌, length, take};
 ghost use Rattle.std.proofs.lemmas.List.Edits.{sets};
 ghost use Rattle.io.specs.Counts.{IsPrefixLen};

@@ -1,4 +1,6 @@
 // Move numbers: that of a slide, whether a number is a listed move, and the position after a move that can be made.
+#![tactic(auto)]
+
 ghost use Rattle.std.specs.Prelude.{◌≡◌, ◌+◌, ◌*◌, ◌<◌};
 ghost use Rattle.lists.specs.Lists.{member};
 ghost use Rattle.board.specs.Board.{position_of, board_of};

@@ -1,4 +1,6 @@
 // Marks the open positions that have a ply to a given one. In that one the sides have changed names, so the side that moved is the opponent.
+#![tactic(auto)]
+
 ghost use Rattle.std.specs.Prelude.{◌≡◌, ◌*◌, ◌<◌, length};
 ghost use Rattle.sets.specs.Sets.{bit};
 ghost use Rattle.board.specs.Board.{board_of};

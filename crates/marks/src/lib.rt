@@ -1,4 +1,6 @@
 // Open positions marked: one, and those that have one stone more than a given one.
+#![tactic(auto)]
+
 ghost use Rattle.std.specs.Prelude.{◌≡◌, map, suc, ◌+◌, ◌*◌, length, set};
 ghost use Rattle.sets.specs.Sets.{elements};
 ghost use Rattle.board.specs.Board.{digit, board_of};

@@ -1,5 +1,7 @@
 // The masks of a board: the neighbours of each point and the two mills through it, as sets. A call derives them once from the fixed tables and lends
 // them down. This crate alone knows where the parts lie.
+#![tactic(auto)]
+
 ghost use Rattle.std.specs.Prelude.{◌≡◌, [], ◌-◌, ◌*◌, ◌^◌, ◌≤◌, ◌<◌, length, get_or, replicate};
 ghost use Rattle.sets.specs.Sets.{set_from};
 ghost use Rattle.geometry.specs.Geometry.{neighbours, mills, mills_through};

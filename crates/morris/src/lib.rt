@@ -5,6 +5,7 @@
 //
 // The calls on moves, fills, entries and certificates take the rules edition after `rings`. Under both editions a closed mill removes an opposing
 // stone outside any mill; if all stand in mills, under edition 1 any one, under edition 2 nothing.
+#![tactic(auto)]
 
 // Ranks. `rank` gives the rank of a board of 8 × rings bytes. `unrank` writes the board of a rank among those of given counts.
 pub use answers::{Ranked, Unranked};

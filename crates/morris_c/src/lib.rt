@@ -2,6 +2,8 @@
 //
 // Each function returns the number of the refusal that its arguments meet, 0 for none, and gives values through `&mut`, zero after a refusal. The
 // contracts are those of `morris`, by the same definitions.
+#![tactic(auto)]
+
 ghost use Rattle.std.specs.Prelude.{◌≡◌, []};
 ghost use Rattle.answers.specs.Answers.{number as number_of, value, answer as answered};
 ghost use Rattle.morris.specs.Calls.{rank_call, unrank_call, unrank_target, moves_call, moves_list, make_move_call, make_move_target, representative_call};

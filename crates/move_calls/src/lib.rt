@@ -1,4 +1,6 @@
 // The moves of a board under a rules edition, and the board after a move.
+#![tactic(auto)]
+
 ghost use Rattle.std.specs.Prelude.{◌≡◌};
 ghost use Rattle.answers.specs.Answers.{listed, made};
 ghost use Rattle.move_calls.specs.MovesCall.{moves_call, moves_list};

@@ -1,4 +1,6 @@
 // How the test programs write words, numbers, refusals and boards. Boards are written as the papers write them, from the highest point down.
+#![tactic(auto)]
+
 ghost use Rattle.std.specs.Prelude.{◌≤◌};
 
 use libc::STDOUT_FILENO;

@@ -1,4 +1,6 @@
 // An answer as numbers: document 01's number is returned, the values are given through `&mut`. "A refusal returns its number and zero elsewhere."
+#![tactic(auto)]
+
 ghost use Rattle.std.specs.Prelude.{◌≡◌};
 ghost use Rattle.answers.specs.Answers.{number as number_of, value};
 ghost use Rattle.answers.specs.Answers.{ranked, unranked, listed, made, represented, solved, looked, chosen, checked, frame_read, frame_written};

@@ -1,1 +1,2 @@
 // What the calls say of classes: theorems only.
+#![tactic(auto)]

@@ -1,4 +1,6 @@
 // Both tables of a pair, the one after the other: filled with one value, at level 0, at a level above it, and looked at for open positions.
+#![tactic(auto)]
+
 ghost use Rattle.std.specs.Prelude.{◌≡◌, ◌*◌, length};
 ghost use Rattle.rules.specs.Ply.{removable};
 ghost use Rattle.classing.specs.Inner.Classes.{least_of_class};

@@ -1,4 +1,6 @@
 // One table's part of a tablebase: the places from its start on and below its end. The function that writes entries is lent that part alone.
+#![tactic(auto)]
+
 ghost use Rattle.std.specs.Prelude.{◌≡◌, true, false, ◌+◌, ◌≤◌, ◌<◌, eqb, length, get_or, set, replicate};
 ghost use Rattle.game.specs.Game.{draw_entry, void_entry};
 ghost use Rattle.parts.specs.Parts.{filled_part};

@@ -1,4 +1,6 @@
 // Document 01's cases of moves listed and made, a printed line for each.
+#![tactic(auto)]
+
 mod boards;
 mod plays;
 

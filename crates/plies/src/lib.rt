@@ -1,4 +1,6 @@
 // Plies on sets: where a stone may go, what it may remove, and whether a mover is blocked.
+#![tactic(auto)]
+
 mod blocking;
 mod choices;
 

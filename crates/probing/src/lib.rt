@@ -1,4 +1,6 @@
 // Entries read from a tablebase, of a position and of the one that a ply leads to, where each table is given by its start.
+#![tactic(auto)]
+
 ghost use Rattle.std.specs.Prelude.{◌≡◌, ◌+◌, ◌*◌, ◌≤◌, length, get_or};
 ghost use Rattle.board.specs.Board.{count, board_of};
 ghost use Rattle.sizes.specs.Size.{size};

@@ -1,4 +1,6 @@
 // The rank of a board, and the board of a rank.
+#![tactic(auto)]
+
 ghost use Rattle.std.specs.Prelude.{◌≡◌};
 ghost use Rattle.answers.specs.Answers.{ranked, unranked};
 ghost use Rattle.rank_calls.specs.RankCall.{rank_call};

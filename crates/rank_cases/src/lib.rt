@@ -1,4 +1,6 @@
 // Document 01's cases of ranks, boards of ranks and lengths of tablebases, a printed line for each.
+#![tactic(auto)]
+
 ghost use Rattle.std.specs.Prelude.{◌≤◌};
 
 use answers::{Ranked, Unranked};

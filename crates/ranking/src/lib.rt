@@ -1,4 +1,6 @@
 // The rank of a position, and the position of a rank.
+#![tactic(auto)]
+
 ghost use Rattle.std.specs.Prelude.{◌≡◌, cond, suc, ◌+◌, ◌-◌, ◌≤◌, ◌<◌};
 ghost use Rattle.board.specs.Board.{digit, board_of, position_of};
 ghost use Rattle.sizes.specs.Size.{size};

@@ -1,4 +1,6 @@
 // Positions that no game reaches, on sets: stones are counted first, and mills looked for only against nine.
+#![tactic(auto)]
+
 ghost use Rattle.std.specs.Prelude.{◌≡◌, not, ◌&&◌, ◌*◌, eqb};
 ghost use Rattle.sets.specs.Sets.{has, members};
 ghost use Rattle.board.specs.Board.{board_of};

@@ -1,5 +1,6 @@
 // Where a call is turned back: the numbers of document 01's table, and 15 and 20 of document 02. Its conditions and their order are definitions; the tests
 // stand above, by subject.
+#![tactic(auto)]
 
 // The refusal numbers.
 pub const RINGS: u8 = 1;

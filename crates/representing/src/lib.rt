@@ -1,4 +1,6 @@
 // The representative of a board's class: images of a whole board of 24 points, and the one of least rank.
+#![tactic(auto)]
+
 ghost use Rattle.std.specs.Prelude.{◌≡◌, ◌*◌, ◌≤◌, ◌<◌, length};
 ghost use Rattle.board.specs.Board.{Values};
 ghost use Rattle.sizes.specs.Inner.Binomial.{BinomialTable};

@@ -1,5 +1,7 @@
 // Marks the open positions before a ply of one stone to a given position, by the points that it may have come from. In that position the sides have
 // changed names, so the stone is the opponent's.
+#![tactic(auto)]
+
 ghost use Rattle.std.specs.Prelude.{◌≡◌, ◌*◌, length};
 ghost use Rattle.lists.specs.Lists.{each};
 ghost use Rattle.sets.specs.Sets.{bit, elements};

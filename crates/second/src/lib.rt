@@ -6,6 +6,8 @@
 // ply less to hope for, and is lost with its last. What stays open is drawn.
 //
 // All tables are filled, or two of them over entries that are given: `filled` has the starts of those alone, `starts` those of all.
+#![tactic(auto)]
+
 ghost use Rattle.std.specs.Prelude.{◌<◌, ◌≤◌};
 ghost use Rattle.second.specs.Unchanged.{UnchangedUnless};
 

@@ -1,4 +1,6 @@
 // The positions of a table by rising rank, each found from the one before.
+#![tactic(auto)]
+
 ghost use Rattle.std.specs.Prelude.{◌≡◌, ◌+◌, ◌*◌, ◌≤◌, ◌<◌};
 ghost use Rattle.board.specs.Board.{position_of};
 ghost use Rattle.sizes.specs.Size.{size};

@@ -1,4 +1,6 @@
 // A session of `desk`: the one-ring tablebase is filled, then frames are read from standard input, a line each, and answered on standard output.
+#![tactic(auto)]
+
 ghost use Rattle.std.specs.Prelude.{◌≡◌, ◌*◌, ◌≤◌, length};
 ghost use Rattle.morris.specs.Calls.{FillCall};
 ghost use Rattle.answers.specs.Answers.{solved};

@@ -1,4 +1,6 @@
 // Sets of points, as the binary digits of a u32. A board has 24 points at the most.
+#![tactic(auto)]
+
 ghost use Rattle.std.specs.Prelude.{◌≡◌, ◌∷◌, [], ◌<◌, eqb};
 ghost use Rattle.sets.specs.Sets.{has, with, without, members, shared, lowest, set_from};
 ghost use Rattle.sets.specs.Inner.Taken.{Taken};

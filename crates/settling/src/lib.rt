@@ -1,4 +1,6 @@
 // A marked position judged by its successors: the level at all its images, or open again.
+#![tactic(auto)]
+
 ghost use Rattle.std.specs.Prelude.{◌≡◌, ◌+◌, ◌-◌, ◌≤◌, length};
 ghost use Rattle.rules.specs.Ply.{removable};
 ghost use Rattle.finding.specs.Inner.Finding.{First};

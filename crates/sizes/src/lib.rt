@@ -1,5 +1,7 @@
 // Sizes from a constant table of binomials. A call takes the table as a value once and lends it down; its rule goes with it as what the borrower
 // requires.
+#![tactic(auto)]
+
 mod table;
 
 ghost use Rattle.std.specs.Prelude.{◌≡◌, ◌≤◌, ◌<◌};

@@ -1,4 +1,6 @@
 // The solver: a pair by its counts and by a number of maps, and a whole tablebase pair by pair, the smaller pairs first.
+#![tactic(auto)]
+
 ghost use Rattle.std.specs.Prelude.{◌≡◌, ◌+◌, length};
 ghost use Rattle.rules.specs.Ply.{removable};
 ghost use Rattle.invariance.specs.Symmetric.{LowerSymmetric};

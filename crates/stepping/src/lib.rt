@@ -1,4 +1,6 @@
 // The position of the next rank, and of a rank a few steps on, from a position: no loop over the points.
+#![tactic(auto)]
+
 ghost use Rattle.std.specs.Prelude.{◌≡◌, suc, ◌+◌, ◌-◌, ◌*◌, ◌/◌, ◌^◌, ◌≤◌, ◌<◌};
 ghost use Rattle.board.specs.Board.{count, board_of, position_of, OnBoard};
 ghost use Rattle.sizes.specs.Size.{size};

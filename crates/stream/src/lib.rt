@@ -1,4 +1,6 @@
 // Standard input read block by block, its lines answered on standard output, in lent buffers.
+#![tactic(auto)]
+
 ghost use Rattle.std.specs.Prelude.{◌≡◌, ◌*◌, ◌≤◌, ◌<◌, length};
 ghost use Rattle.text.specs.Inner.Room.{most_bytes};
 ghost use Rattle.keeping.specs.Kept.{most_kept};

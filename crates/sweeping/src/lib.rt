@@ -1,5 +1,7 @@
 // A level above 0 over a table, by classes: of the positions of the depth below one of a class is gone back from, the open positions before it are
 // marked, and each marked position is judged.
+#![tactic(auto)]
+
 ghost use Rattle.std.specs.Prelude.{◌≡◌, ◌*◌, ◌<◌, length};
 ghost use Rattle.sizes.specs.Size.{size};
 ghost use Rattle.rules.specs.Ply.{removable};

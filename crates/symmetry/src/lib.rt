@@ -1,4 +1,6 @@
 // Symmetries of the board: definitions and laws, and the place that a turn or a mirror takes a stone from. Representatives are found in `representing`.
+#![tactic(auto)]
+
 ghost use Rattle.std.specs.Prelude.{◌≡◌, ◌<◌};
 ghost use Rattle.symmetry.specs.Symmetries.{place_from};
 

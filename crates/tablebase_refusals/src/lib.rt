@@ -1,4 +1,6 @@
 // The first refusal that a tablebase meets, with a board, to be checked or to be filled.
+#![tactic(auto)]
+
 ghost use Rattle.std.specs.Prelude.{◌≡◌, ◌≤◌};
 ghost use Rattle.sets.specs.Sets.{members};
 ghost use Rattle.sizes.specs.Inner.Binomial.{BinomialTable};

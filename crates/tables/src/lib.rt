@@ -1,4 +1,6 @@
 // Where the tables of a tablebase lie: a table and the one below it, and the tables of a position's successors.
+#![tactic(auto)]
+
 ghost use Rattle.std.specs.Prelude.{◌≡◌, ◌*◌, ◌≤◌};
 ghost use Rattle.board.specs.Board.{count, board_of};
 ghost use Rattle.sizes.specs.Inner.Binomial.{BinomialTable};

@@ -1,5 +1,7 @@
 // Numbers in base ten and the lines that `desk` prints, written into a lent buffer from a place on. Each function answers the place after what it
 // wrote; a line takes 126 bytes at most.
+#![tactic(auto)]
+
 ghost use Rattle.std.specs.Prelude.{◌≡◌, ◌+◌, ◌≤◌, length};
 ghost use Rattle.std.proofs.lemmas.List.Edits.{sets};
 ghost use Rattle.io.specs.Counts.{IsPrefixLen};

@@ -3,17 +3,13 @@ use mathlib.Core.Path.{sym}
 use native.Mathlib.Omega.{arith}
 use lib.Count.{trailing_le}
 use Rattle.sets.proofs.Elements.{lowest_is, lowest_low}
-use Rattle.sets.proofs.lowest.Statement.{statement}
-use Rattle.sets.proofs.lowest.Tie as tie
+use Rattle.sets.proofs.lowest.Goals as goal
 
-cast-result : tie.Need-overflow-cast-result
-cast-result c = omega (arith, trailing_le 32 c.args.s)
+pub overflow_cast-result : goal.overflow_cast-result
+overflow_cast-result c = omega (arith, trailing_le 32 c.args.s)
 
-returns : tie.Need-returns
+pub returns : goal.returns
 returns c =
     let s = c.args.s in
     let e = lowest_is s c.ranges.s.fits c.requires in
     (sym e, omega (arith, e, lowest_low s c.ranges.s.fits c.requires))
-
-pub lowest-spec : {M : Type 1} → statement M
-lowest-spec = tie.close (tie.spec cast-result returns)
