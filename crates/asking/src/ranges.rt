@@ -9,7 +9,7 @@ pub const NOT_WON: u32 = 65536;
 
 // The edition, for it says which successors a position has; their tables, by where they start; and the keys that are asked for: from low on and below
 // high.
-#[derive(Drop)]
+#[derive(Clone, Copy)]
 pub struct Question {
     pub edition: u8,
     pub starts: Starts,

@@ -12,7 +12,7 @@ ghost use Rattle.asking.specs.Inner.Questions.{Movable, Removing, entry_asked};
 use super::ranges::{Question, asked};
 
 // One of the mover's stones, and where it may go.
-#[derive(Drop)]
+#[derive(Clone, Copy)]
 pub struct Stone {
     pub from: usize,
     pub tos: u32,

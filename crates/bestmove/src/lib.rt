@@ -17,7 +17,7 @@ use tables::Starts;
 const MOVES_MAX: usize = 324;
 
 // A move, and the entry of the successor that it leads to.
-#[derive(Drop)]
+#[derive(Clone, Copy)]
 pub struct Best {
     pub number: u16,
     pub entry: u16,

@@ -5,7 +5,7 @@ ghost use Rattle.std.specs.Prelude.{◌≡◌, ◌≤◌, ◌<◌, length};
 ghost use Rattle.board.specs.Board.{set_of, position_of, value_at, board_of, OnBoard};
 
 // The points of the side to move, and those of the other side.
-#[derive(Drop)]
+#[derive(Clone, Copy)]
 pub struct Position {
     pub mover: u32,
     pub opponent: u32,

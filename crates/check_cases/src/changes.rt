@@ -2,7 +2,7 @@
 use fill_cases::{DRAW_ENTRY, VOID_ENTRY};
 
 // What is written: bare marks of win and loss; a cap over the depths above it, or over draws as well; a depth over draws.
-#[derive(Drop)]
+#[derive(Clone, Copy)]
 pub enum Change {
     Marks,
     Cap(u16),

@@ -14,7 +14,7 @@ use seeking::Cursor;
 use tables::{Starts, Table};
 
 // The rings, the edition and the largest count that a tablebase is checked for.
-#[derive(Drop)]
+#[derive(Clone, Copy)]
 pub struct Kind {
     pub rings: usize,
     pub edition: u8,
@@ -22,7 +22,7 @@ pub struct Kind {
 }
 
 // How many entries are right before the first that is not, and whether all are.
-#[derive(Drop)]
+#[derive(Clone, Copy)]
 pub struct Passed {
     pub count: usize,
     pub all: bool,

@@ -9,7 +9,7 @@ ghost use Rattle.classing.specs.Inner.Conditions.{Imaging, InTable};
 use parts::Part;
 
 // The rings of a board, and how many of its symmetries make a class.
-#[derive(Drop)]
+#[derive(Clone, Copy)]
 pub struct Maps {
     pub rings: usize,
     pub count: usize,

@@ -14,7 +14,7 @@ use layers::Source;
 use parts::DRAW;
 
 // A position and its entry, in the table that starts at a place.
-#[derive(Drop)]
+#[derive(Clone, Copy)]
 pub struct Entered {
     pub start: usize,
     pub position: board::Position,

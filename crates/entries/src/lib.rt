@@ -10,7 +10,7 @@ ghost use Rattle.entries.specs.Inner.Choices.{choice, choice_at};
 ghost use Rattle.entries.specs.Inner.Whole.{InTablebase};
 
 // The best move with the entry of the successor that it leads to; or that the mover is blocked, or that a successor is void.
-#[derive(Drop)]
+#[derive(Clone, Copy)]
 pub enum Choice {
     Blocked,
     Void,

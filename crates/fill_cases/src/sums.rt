@@ -6,7 +6,7 @@ pub const DRAW_ENTRY: u16 = 65535;
 pub const VOID_ENTRY: u16 = 65534;
 
 // The sums of entries: how many are won, lost, drawn and void, their depths together, and the entries as the digits of a number modulo a prime.
-#[derive(Drop)]
+#[derive(Clone, Copy)]
 struct Sums {
     won: u64,
     lost: u64,

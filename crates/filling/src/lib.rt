@@ -13,7 +13,7 @@ use pairs::Tables;
 use parts::{DRAW, VOID};
 
 // The rings and the largest count of a tablebase, the edition under which it is filled, and the limit of its depths.
-#[derive(Drop)]
+#[derive(Clone, Copy)]
 pub struct Bounds {
     pub rings: usize,
     pub edition: u8,

@@ -16,7 +16,7 @@ pub const WALK_PAYS_ABOVE: u32 = 4;
 
 // The point reached; the stones below it, and the opponent's among them; and what the position's stones add to the rank where the new stone is counted
 // below those from here on.
-#[derive(Drop)]
+#[derive(Clone, Copy)]
 pub struct Insertion {
     pub at: usize,
     pub stones: usize,

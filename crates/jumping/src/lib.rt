@@ -13,7 +13,7 @@ ghost use Rattle.jumping.specs.Inner.Jumping.{Jumping};
 use asking::{Question, Stone};
 
 // A slide by its number, the position after its stone is lifted, and a walk that has reached its destination.
-#[derive(Drop)]
+#[derive(Clone, Copy)]
 pub struct Jump {
     pub slide: usize,
     pub lifted: board::Position,

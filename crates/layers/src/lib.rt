@@ -16,7 +16,7 @@ use classing::Maps;
 use returning::Back;
 
 // A table that plies lead to: where it starts, and its counts.
-#[derive(Drop)]
+#[derive(Clone, Copy)]
 pub struct Source {
     pub start: usize,
     pub mover: usize,
@@ -24,7 +24,7 @@ pub struct Source {
 }
 
 // The positions of one depth in such a table.
-#[derive(Drop)]
+#[derive(Clone, Copy)]
 pub struct Layer {
     pub source: Source,
     pub depth: u16,

@@ -11,7 +11,7 @@ ghost use Rattle.lines.specs.Lines.{ended_lines, left, last};
 ghost use Rattle.replies.specs.Replies.{answers};
 
 // How many bytes are kept of the line that is not yet ended, and how many bytes of answers were written.
-#[derive(Drop)]
+#[derive(Clone, Copy)]
 pub struct Fed {
     pub kept: usize,
     pub used: usize,

@@ -14,7 +14,7 @@ ghost use Rattle.listing.specs.Inner.Places.{dealt, Room};
 const NO_STONE: usize = 31;
 
 // How many of a position's moves are captures, and how many are not.
-#[derive(Drop)]
+#[derive(Clone, Copy)]
 pub struct Counts {
     pub captures: usize,
     pub others: usize,
@@ -104,7 +104,7 @@ fn list_removals(base: usize, removals: u32, list: &mut [u16], at: usize) -> usi
 }
 
 // Where the next capture and the next of the other moves are written.
-#[derive(Drop)]
+#[derive(Clone, Copy)]
 struct Places {
     captures: usize,
     others: usize,

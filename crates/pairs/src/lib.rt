@@ -13,7 +13,7 @@ use settling::Sweep;
 use tables::Table;
 
 // The tables (m, o) and (o, m) of a pair; they are one where both sides have as many stones.
-#[derive(Drop)]
+#[derive(Clone, Copy)]
 pub struct Tables {
     pub first: Table,
     pub second: Table,

@@ -17,7 +17,7 @@ pub const DRAW_WIDE: u32 = DRAW as u32;
 pub const VOID_WIDE: u32 = VOID as u32;
 
 // The places of a tablebase from start on and below end: one table's.
-#[derive(Drop)]
+#[derive(Clone, Copy)]
 pub struct Part {
     pub start: usize,
     pub end: usize,

@@ -14,7 +14,7 @@ ghost use Rattle.returning.specs.Inner.Returning.{Returning};
 use parts::Part;
 
 // Where the positions before a ply stand, and whether that ply removed a stone.
-#[derive(Drop)]
+#[derive(Clone, Copy)]
 pub struct Back {
     pub part: Part,
     pub capture: bool,

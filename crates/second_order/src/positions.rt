@@ -5,7 +5,7 @@ use super::boards::{first_board, lowest_to_raise, raise};
 use super::tables::NO_TABLE;
 
 // A position of a tablebase: the rings, its counts and its board.
-#[derive(Drop)]
+#[derive(Clone, Copy)]
 pub struct Position {
     pub rings: u8,
     pub m: u8,

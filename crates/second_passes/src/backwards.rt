@@ -6,7 +6,7 @@ use second_order::{
 };
 
 // What is taken back: the rings, the edition, the depth found, and the counts before the ply, without a removal.
-#[derive(Drop)]
+#[derive(Clone, Copy)]
 struct Ply {
     rings: u8,
     edition: u8,
@@ -16,7 +16,7 @@ struct Ply {
 }
 
 // The move of a ply that is taken back.
-#[derive(Drop)]
+#[derive(Clone, Copy)]
 struct Move {
     ply: Ply,
     to: usize,

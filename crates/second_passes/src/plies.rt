@@ -7,7 +7,7 @@ use second_order::{
 pub const OPEN: u16 = 65535;
 
 // Plies counted: how many, and whether one of them takes a stone.
-#[derive(Drop)]
+#[derive(Clone, Copy)]
 struct Tally {
     plies: u16,
     taking: bool,

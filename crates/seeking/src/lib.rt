@@ -9,7 +9,7 @@ ghost use Rattle.ranking.specs.Unrank.{unrank};
 ghost use Rattle.seeking.specs.Inner.Cursors.{Stands};
 
 // A rank and its position. A rank above all that are sought stands for none yet.
-#[derive(Drop)]
+#[derive(Clone, Copy)]
 pub struct Cursor {
     pub rank: usize,
     pub position: board::Position,

@@ -68,7 +68,7 @@ fn without_lowest(s: u32) -> u32
 }
 
 // A set's least member, and the rest.
-#[derive(Drop)]
+#[derive(Clone, Copy)]
 pub struct Split {
     pub lowest: usize,
     pub rest: u32,

@@ -13,7 +13,7 @@ use seeking::Cursor;
 use tables::{Starts, Table};
 
 // A level over a table under an edition; the table of its successors without a removal starts at `same`.
-#[derive(Drop)]
+#[derive(Clone, Copy)]
 pub struct Sweep {
     pub edition: u8,
     pub table: Table,

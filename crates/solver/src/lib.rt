@@ -14,7 +14,7 @@ use pairs::Tables;
 use parts::{Part, VOID};
 
 // The stone counts of a table.
-#[derive(Drop)]
+#[derive(Clone, Copy)]
 pub struct Counts {
     pub mover: usize,
     pub opponent: usize,

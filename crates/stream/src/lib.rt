@@ -8,7 +8,7 @@ ghost use Rattle.keeping.specs.Kept.{most_kept};
 use libc::{STDIN_FILENO, STDOUT_FILENO};
 
 // After a block: how many bytes are kept of a line that is not yet ended, and whether to go on.
-#[derive(Drop)]
+#[derive(Clone, Copy)]
 struct After {
     kept: usize,
     more: bool,

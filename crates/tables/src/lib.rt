@@ -11,7 +11,7 @@ ghost use Rattle.tables.specs.Inner.Tables.{lower_start, lower_end, Located};
 use parts::Part;
 
 // The table (mover, opponent): its own part, and that of the table which a removal leads to, empty where that leaves two stones.
-#[derive(Drop)]
+#[derive(Clone, Copy)]
 pub struct Table {
     pub mover: usize,
     pub opponent: usize,
@@ -20,7 +20,7 @@ pub struct Table {
 }
 
 // Where the tables of a position's successors start: of those without a removal, and of those with one.
-#[derive(Drop)]
+#[derive(Clone, Copy)]
 pub struct Starts {
     pub same: usize,
     pub fewer: usize,

@@ -9,14 +9,14 @@ ghost use Rattle.text.specs.Text.{decimal, item, position_line, refused_line, he
 ghost use Rattle.text.specs.Inner.Room.{most_bytes};
 
 // A field of a line: a number, or `-`.
-#[derive(Drop)]
+#[derive(Clone, Copy)]
 pub enum Field {
     Number(u64),
     Absent,
 }
 
 // The table that a position stands in, and its rank there.
-#[derive(Drop)]
+#[derive(Clone, Copy)]
 pub struct Standing {
     pub rings: u64,
     pub mover: u64,
