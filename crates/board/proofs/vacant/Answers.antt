@@ -6,10 +6,8 @@ use borrow.Author.Rules.{rules}
 use Rattle.sets.proofs.Laws.{shl_one}
 use Rattle.board.specs.Board.{set_of, board_of}
 use Rattle.board.proofs.OneToOne.{vacant_sum}
-use Rattle.board.proofs.vacant.Statement.{statement}
-use Rattle.board.proofs.vacant.Tie as tie
-use Rattle.board.proofs.vacant.Lts as lts
-use Rattle.board.proofs.vacant.Reads as reads
+use Rattle.board.proofs.vacant.Goals as goal
+use Rattle.board.proofs.vacant.Goals.{Start}
 
 record Sum (points m o v : ℕ) : Type 0 where
   pub one : 1 ≤ 1 * 2 ^ points % 4294967296
@@ -17,7 +15,7 @@ record Sum (points m o v : ℕ) : Type 0 where
   pub opponent : o ≤ 1 * 2 ^ points % 4294967296 - 1 - m
   pub rest : 1 * 2 ^ points % 4294967296 - 1 - m - o ≡ v
 
-sum : (c : lts.Start reads.Pre reads.Post)
+sum : (c : Start)
     → Sum c.args.points c.args.position.mover c.args.position.opponent (set_of 0 (board_of c.args.points c.args.position))
 sum c =
     let a = c.args in
@@ -25,23 +23,14 @@ sum c =
     let s = shl_one a.points (omega (arith, c.requires.0)) in
     record { one = omega arith; mover = omega arith; opponent = omega arith; rest = omega arith }
 
-cast-result : tie.Need-overflow-cast-result
-cast-result c = search rules
+pub overflow_sub-result : goal.overflow_sub-result
+overflow_sub-result c = (sum (goal.at.overflow_sub-result c).Start).one
 
-shl-result : tie.Need-overflow-shl-result
-shl-result c = search rules
+pub overflow_sub-result-2 : goal.overflow_sub-result-2
+overflow_sub-result-2 c = (sum (goal.at.overflow_sub-result-2 c).Start).mover
 
-sub-result : tie.Need-overflow-sub-result
-sub-result c = (sum c).one
+pub overflow_sub-result-3 : goal.overflow_sub-result-3
+overflow_sub-result-3 c = (sum (goal.at.overflow_sub-result-3 c).Start).opponent
 
-sub-result-2 : tie.Need-overflow-sub-result-2
-sub-result-2 c = (sum c.before).mover
-
-sub-result-3 : tie.Need-overflow-sub-result-3
-sub-result-3 c = (sum c.before.before).opponent
-
-returns : tie.Need-returns
-returns c = (sum c.before.before).rest
-
-pub vacant-spec : {M : Type 1} → statement M
-vacant-spec = tie.close (tie.spec cast-result shl-result sub-result sub-result-2 sub-result-3 returns)
+pub returns : goal.returns
+returns c = (sum (goal.at.returns c).Start).rest

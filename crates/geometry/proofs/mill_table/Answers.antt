@@ -2,12 +2,8 @@
 use Rattle.geometry.specs.Geometry.{ring_mills, cross_mills, mills}
 use Rattle.geometry.specs.Tables.{mill_point}
 use Rattle.lists.proofs.Table.{rule_rows}
-use Rattle.geometry.proofs.mill_table.Statement.{statement}
-use Rattle.geometry.proofs.mill_table.Tie as tie
+use Rattle.geometry.proofs.mill_table.Goals as goal
 
-returns : tie.Need-returns
+pub returns : goal.returns
 unfolding mill_point mills ring_mills cross_mills
 returns c = record { at = rule_rows (λ i j. mill_point i j) 3 16 }
-
-pub mill-table-spec : {M : Type 1} → statement M
-mill-table-spec = tie.close (tie.spec returns)
