@@ -44,8 +44,12 @@ enough c =
     k.opponent_most
 
 -- so many moves were counted
-counted : (c : After-count_moves-counts) → c.count_moves-counts.result.captures + c.count_moves-counts.result.others ≡ length (listed c.before.before)
-counted c = ap₂ ◌+◌ c.count_moves-counts.ensures.captures.0 c.count_moves-counts.ensures.others.0 ∙ listed_total (legal c.before.before)
+counted : (c : After-count_moves-counts)
+    → c.count_moves-counts.result.captures + c.count_moves-counts.result.others
+    ≡ length (captures_first (moves (removable c.args.edition) c.args.rings (board_of (8 * c.args.rings) c.args.position)))
+counted c =
+    ap₂ ◌+◌ c.count_moves-counts.ensures.captures.0 c.count_moves-counts.ensures.others.0
+    ∙ listed_total (moves (removable c.args.edition) c.args.rings (board_of (8 * c.args.rings) c.args.position))
 
 -- its first places hold them
 filled : (c : Start) (list : List ℕ) (n : ℕ) → list ≡ sets (replicate {A = ℕ} 324 0) 0 (listed c) → n ≡ length (listed c) → take n list ≡ listed c

@@ -49,9 +49,10 @@ returns c =
     let a = c.args in
     let b : List ℕ = board_of (8 * a.rings) a.position in
     let f : ℕ → ℕ = λ m. entry_by a.tablebase.now a.starts.same a.starts.fewer b m in
-    running_all f a.moves.now c.loop-i.i c.loop-i.best (omega (arith, c.loop-i.invariant.0, c.loop-i-test.false))
+    let whole = running_all f a.moves.now c.loop-i.i c.loop-i.best (omega (arith, c.loop-i.invariant.0, c.loop-i-test.false))
     c.requires.candidates.some (λ m i. record {
       small = probe_small a.tablebase.now a.starts.same a.starts.fewer (count 2 b) (after_ply b m)
           (λ j. omega (arith, c.shared_slice_known-1.given j));
       some = c.requires.candidates.told m i;
-    }) c.loop-i.invariant.1
+    }) c.loop-i.invariant.1 in
+    record { number = whole.0; entry = whole.1 }
