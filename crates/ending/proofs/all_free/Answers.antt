@@ -7,29 +7,19 @@ use lib.Dec.{eqb, ltb}
 use borrow.Author.Tests.{le-ltb}
 use Rattle.ending.specs.Inner.Blocked.{all_free}
 use borrow.Author.Rules.{rules}
-use Rattle.ending.proofs.all_free.Statement.{statement}
-use Rattle.ending.proofs.all_free.Tie as tie
-
-mul-points : tie.Need-overflow-mul-points
-mul-points c = search rules
+use Rattle.ending.proofs.all_free.Goals as goal
 
 neither : (a b : Bool) → b ≡ false → false ≡ (a && b)
 neither true b e = sym e
 neither false b e = refl
 
-returns : tie.Need-returns
+pub returns-then-points-table : goal.returns-then-points-table
 unfolding all_free
-returns c =
-    let a = c.before.before.args in
+returns-then-points-table c =
+    let a = c.args in
     neither (eqb a.table.mover 3) (ltb 3 (8 * a.rings - a.table.opponent))
-    (le-ltb 3 (8 * a.rings - a.table.opponent) (omega (arith, c.if1.true)))
+    (le-ltb 3 (8 * a.rings - a.table.opponent) (omega (arith, c.if-points-table.true)))
 
-sub-result : tie.Need-overflow-sub-result
-sub-result c = search rules
-
-returns-2 : tie.Need-returns-2
+pub returns : goal.returns
 unfolding all_free
-returns-2 c = refl
-
-pub all-free-spec : {M : Type 1} → statement M
-all-free-spec = tie.close (tie.spec mul-points returns sub-result returns-2)
+returns c = refl
