@@ -22,7 +22,7 @@ loop-i-init c = mills_all c.args.stones
 
 pub returns-then-share_three : goal.returns-then-share_three
 returns-then-share_three c =
-    mill_found c.args.stones c.fits.stones.fits c.loop-i.i (omega (arith, c.loop-i-test.true)) c.loop-i.invariant
+    mill_found c.args.stones c.ranges.stones.fits c.loop-i.i (omega (arith, c.loop-i-test.true)) c.loop-i.invariant
     (sym (looked (goal.at.returns-then-share_three c).After-share_three) ∙ c.if-share_three.true)
 
 pub loop-i-preserved : goal.loop-i-preserved
@@ -30,7 +30,7 @@ loop-i-preserved c =
     let i = c.loop-i.i in
     let e : suc i ≡ i + 1 = omega arith in
     subst (MillsLeft c.args.stones) e
-    (mill_passed c.args.stones c.fits.stones.fits i (omega (arith, c.loop-i-test.true)) c.loop-i.invariant (sym (looked (goal.at.loop-i-preserved c).After-share_three) ∙ c.if-share_three.false))
+    (mill_passed c.args.stones c.ranges.stones.fits i (omega (arith, c.loop-i-test.true)) c.loop-i.invariant (sym (looked (goal.at.loop-i-preserved c).After-share_three) ∙ c.if-share_three.false))
 
 pub returns : goal.returns
 returns c =
