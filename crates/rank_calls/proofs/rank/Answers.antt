@@ -20,7 +20,7 @@ board c = accepted_board _ _ (sym c.of_board-refusal.ensures ∙ c.if-refusal-ne
 
 shows : (c : After-position_of-position)
     → ShowsBoard c.args.rings c.args.board.now c.position_of-position.result
-shows c = board_shown _ _ (board c.before.before) _ c.position_of-position.ensures
+shows c = board_shown _ _ (board (record { before = c.before.before.before; type_inv = record { board = c.shared_slice_known-1.given } })) _ c.position_of-position.ensures
 
 pub returns-then-refusal-ne0 : goal.returns-then-refusal-ne0
 unfolding rank_call

@@ -43,7 +43,7 @@ table-size : (c : After-size-size)
     c.args.mover c.args.opponent
 table-size c =
     let a = c.args in
-    c.size-size.ensures ∙ ap (λ (n : ℕ). size n a.mover a.opponent) (counts-accepted c.before.before.before).points
+    c.size-size.ensures ∙ ap (λ (n : ℕ). size n a.mover a.opponent) (counts-accepted (record { before = c.before.before.before.before; type_inv = record { target = c.slice_known-1.given } })).points
 
 pub size-size-requires : goal.size-size-requires
 size-size-requires c =
