@@ -46,23 +46,23 @@ room c = (accepted c).1
 board : (c : Else-refusal-ne0) → Accepted c.args.rings c.args.board.now
 board c = (accepted c).0
 
-shows : (c : After-position_of-position) → ShowsBoard (started c).args.rings (started c).args.board.now c.position_of-position.result
-shows c = board_shown _ _ (board c.before.before) _ c.position_of-position.ensures
+shows : (c : After-position_of-position) → ShowsBoard c.args.rings c.args.board.now c.position_of-position.result
+shows c = board_shown _ _ (board (record { before = c.before.before.before; type_inv = record { target = c.slice_known-1.given; board = c.shared_slice_known-1.given } })) _ c.position_of-position.ensures
 
 -- what was tested is whether the board has the move
 tested : (c : After-is_move)
-    → member (started c).args.number
-    (moves (removable (started c).args.edition) (started c).args.rings
-    (started c).args.board.now)
+    → member c.args.number
+    (moves (removable c.args.edition) c.args.rings
+    c.args.board.now)
     ≡ c.is_move.result
 tested c =
-    let a = (started c).args in
-    sym (c.is_move.ensures ∙ ap (member a.number) ((shows c.before.before).moves_back (removable a.edition)))
+    let a = c.args in
+    sym (c.is_move.ensures ∙ ap (member a.number) ((shows (record { before = c.before.before.before; type_inv = record { target = c.slice_known-1.given; board = c.shared_slice_known-1.given } })).moves_back (removable a.edition)))
 
 -- and such a move can be made
 makeable : (c : Then-is_move)
-    → Makeable (started c).args.rings (started c).args.board.now
-    (started c).args.number
+    → Makeable c.args.rings c.args.board.now
+    c.args.number
 makeable c =
     let a = c.args in
     listed_makeable (removable a.edition) (removable_takes a.edition) a.rings (board (goal.at.after_ply-after-requires c).Else-refusal-ne0).rings_high a.board.now (board (goal.at.after_ply-after-requires c).Else-refusal-ne0).values
@@ -80,7 +80,7 @@ is_move-requires c =
 
 pub after_ply-after-requires : goal.after_ply-after-requires
 after_ply-after-requires c =
-    let a = (started p).args in record { placed = (shows (goal.at.after_ply-after-requires c).After-position_of-position).placed; makeable = subst (λ (b : List ℕ). Makeable a.rings b a.number) (sym (shows (goal.at.after_ply-after-requires c).After-position_of-position).back) (makeable (goal.at.after_ply-after-requires c).Then-is_move) }
+    let a = c.args in record { placed = (shows (goal.at.after_ply-after-requires c).After-position_of-position).placed; makeable = subst (λ (b : List ℕ). Makeable a.rings b a.number) (sym (shows (goal.at.after_ply-after-requires c).After-position_of-position).back) (makeable (goal.at.after_ply-after-requires c).Then-is_move) }
 
 pub write_board-requires : goal.write_board-requires
 write_board-requires c =

@@ -38,21 +38,21 @@ passed-board c = sym c.if-refusal-ne0.false ∙ c.of_ruled-refusal.ensures
 board : (c : Else-refusal-ne0) → Accepted c.args.rings c.args.board.now
 board c = ruled_board _ c.args.edition _ (sym (passed-board c))
 
-shows : (c : After-position_of-position) → ShowsBoard (started c).args.rings (started c).args.board.now c.position_of-position.result
-shows c = board_shown _ _ (board c.before.before) _ c.position_of-position.ensures
+shows : (c : After-position_of-position) → ShowsBoard c.args.rings c.args.board.now c.position_of-position.result
+shows c = board_shown _ _ (board (record { before = c.before.before.before; type_inv = record { list = c.slice_known-1.given; board = c.shared_slice_known-1.given } })) _ c.position_of-position.ensures
 
 -- the list of its position's moves is its own, and so many were counted
 listed_back : (c : After-position_of-position)
-    → listed_moves (removable (started c).args.edition) (started c).args.rings
-    (board_of (8 * (started c).args.rings) c.position_of-position.result)
-    ≡ listed_moves (removable (started c).args.edition) (started c).args.rings (started c).args.board.now
-listed_back c = ap captures_first ((shows c).moves_back (removable (started c).args.edition))
+    → listed_moves (removable c.args.edition) c.args.rings
+    (board_of (8 * c.args.rings) c.position_of-position.result)
+    ≡ listed_moves (removable c.args.edition) c.args.rings c.args.board.now
+listed_back c = ap captures_first ((shows c).moves_back (removable c.args.edition))
 
 counted : (c : After-count_moves-counts) → c.count_moves-counts.result.captures + c.count_moves-counts.result.others
-    ≡ length (listed_moves (removable (started c).args.edition) (started c).args.rings
-    (started c).args.board.now)
+    ≡ length (listed_moves (removable c.args.edition) c.args.rings
+    c.args.board.now)
 counted c =
-    ap₂ ◌+◌ c.count_moves-counts.ensures.captures.0 c.count_moves-counts.ensures.others.0 ∙ listed_total _ ∙ ap length (listed_back c.before.before)
+    ap₂ ◌+◌ c.count_moves-counts.ensures.captures.0 c.count_moves-counts.ensures.others.0 ∙ listed_total _ ∙ ap length (listed_back (record { before = c.before.before.before; type_inv = record { list = c.slice_known-1.given; board = c.shared_slice_known-1.given } }))
 
 pub masks_of-masks-requires : goal.masks_of-masks-requires
 masks_of-masks-requires c = (board (goal.at.masks_of-masks-requires c).Else-refusal-ne0).rings_high

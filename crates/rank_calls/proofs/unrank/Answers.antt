@@ -67,7 +67,7 @@ returns c =
     let v = rank_unrank (8 * a.rings) a.mover a.opponent a.rank low in
     let p : c.unrank-position.result ≡ position_of new =
     c.unrank-position.ensures ∙ ap (λ (n : ℕ). position_of (Unrank·unrank n a.mover a.opponent a.rank)) w.points in
-    let e : c.write_board.new.target.0 ≡ new =
+    let e : c.write_board.new.target ≡ new =
     c.write_board.ensures ∙ ap₂ board_of (w.points ∙ sym v.points) p ∙ board_position new v.values in let whole = written _ _ _ _ _ _
     (rank_passed a.rings a.mover a.opponent a.rank (length a.target.now) (passed-counts (goal.at.returns c).Else-refusal-ne0) low) refl e in
     record { answer = whole.0; target = whole.1 }

@@ -13,8 +13,7 @@ use Rattle.frame_calls.specs.ReadFrameCall.{frame_position, read_frame_call, tak
 use Rattle.answers.specs.declared.Frame.{Frame}
 use Rattle.refusals.proofs.FrameConditions.{accepted_frame, frame_refused, stones_are, stones_decide}
 use Rattle.answers.proofs.Answering.{answer_refused, answer_accepted, refused_number, accepted_values}
-use Rattle.frame_calls.proofs.read_frame.Statement.{statement}
-use Rattle.frame_calls.proofs.read_frame.Tie as tie
+use Rattle.frame_calls.proofs.read_frame.Goals as goal
 
 -- the three ways out: turned back as it was taken apart, for its stones, and accepted
 module _ (f : List ℕ) where
@@ -43,59 +42,20 @@ module _ (f : List ℕ) where
     unfolding read_frame_call
     position h = ap accepted given.1 ∙ answer_accepted (refusal (read_picks f)) (frame_position f) (counted false h)
 
-take-apart-requires : tie.Need-take-apart-requires
-take-apart-requires c κs = search rules
-
-enum-known-read : tie.Need-enum-known-read
-enum-known-read c = search rules
-
-enum_told : tie.Need-enum-told
-enum_told c = search rules
-
-number-of-requires : tie.Need-number-of-requires
-number-of-requires c κs = search rules
-
-returns : tie.Need-returns
-returns c =
-    let y = c.before in
-    let q = y.enum_told.given.1 in
+pub returns-in_default : goal.returns-in_default
+returns-in_default c =
+    let q = c.enum_told-1.given.1 in
     let n = c.number_of_lem.ensures ∙ ap (λ (r : Frame). number (frame_read r)) q in
-    ap refused n ∙ turned_back y.before.before.before.before.args.frame.now _ (sym (ap frame_read q) ∙ y.before.before.take-apart.ensures)
+    ap refused n ∙ turned_back c.args.frame.now _ (sym (ap frame_read q) ∙ c.take_apart-read.ensures)
 
-cast-sides-wrong : tie.Need-overflow-cast-sides-wrong
-cast-sides-wrong c = search rules
+pub returns-then-sides_wrong : goal.returns-then-sides_wrong
+returns-then-sides_wrong c =
+    let g = c.read-1.given in
+    stones-turned c.args.frame.now g.0.0 g.0.1.0 g.0.1.1.0
+    (sym (ap frame_read g.1) ∙ c.take_apart-read.ensures) (sym c.if-sides_wrong.true ∙ c.sides_wrong.ensures)
 
-mul-sides-wrong : tie.Need-overflow-mul-sides-wrong
-mul-sides-wrong c = search rules
-
-sides-wrong-requires : tie.Need-sides-wrong-requires
-sides-wrong-requires c κs = search rules
-
-returns-2 : tie.Need-returns-2
-returns-2 c =
-    let y = c.before.before.before in
-    let g = y.read.given in
-    stones-turned y.before.before.before.before.args.frame.now g.0.0 g.0.1.0 g.0.1.1.0
-    (sym (ap frame_read g.1) ∙ y.before.before.take-apart.ensures) (sym c.if1.true ∙ c.before.sides-wrong.ensures)
-
-returns-3 : tie.Need-returns-3
-returns-3 c =
-    let y = c.before.before.before in
-    let g = y.read.given in
-    position y.before.before.before.before.args.frame.now g.0.0 g.0.1.0 g.0.1.1.0
-    (sym (ap frame_read g.1) ∙ y.before.before.take-apart.ensures) (sym c.if1.false ∙ c.before.sides-wrong.ensures)
-
-pub read-frame-spec : {M : Type 1} → statement M
-read-frame-spec =
-    tie.close
-    (tie.spec
-    take-apart-requires
-    enum-known-read
-    enum_told
-    number-of-requires
-    returns
-    cast-sides-wrong
-    mul-sides-wrong
-    sides-wrong-requires
-    returns-2
-    returns-3)
+pub returns : goal.returns
+returns c =
+    let g = c.read-1.given in
+    position c.args.frame.now g.0.0 g.0.1.0 g.0.1.1.0
+    (sym (ap frame_read g.1) ∙ c.take_apart-read.ensures) (sym c.if-sides_wrong.false ∙ c.sides_wrong.ensures)
