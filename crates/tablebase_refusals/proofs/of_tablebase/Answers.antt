@@ -34,7 +34,7 @@ tested : (c : After-unreachable)
     c.args.board.now
 tested c =
     let a = c.args in
-    c.unreachable.ensures ∙ ap (position_unreachable a.rings a.edition) (shows c.before).back
+    c.unreachable.ensures ∙ ap (position_unreachable a.rings a.edition) (shows (record { before = c.before.before; type_inv = record { board = c.shared_slice_known-1.given } })).back
 
 abbrev later : (c : Else-refusal-ne0) → ℕ
 later c =
@@ -44,11 +44,11 @@ later c =
 decided : (c : After-unreachable) (t : Bool) → c.unreachable.result ≡ t
     → refusal (tablebase_picks c.args.rings c.args.edition
     c.args.board.now c.args.k c.args.length)
-    ≡ cond t 15 (later c.before.before)
+    ≡ cond t 15 (later (record { before = c.before.before.before; type_inv = record { board = c.shared_slice_known-1.given } }))
 decided c t e =
     let a = c.args in
-    before_eleven a.rings a.edition a.board.now a.k a.length (passed c.before.before)
-    ∙ ap (λ (u : Bool). cond u 15 (later c.before.before)) (sym (tested c) ∙ e)
+    before_eleven a.rings a.edition a.board.now a.k a.length (passed (record { before = c.before.before.before; type_inv = record { board = c.shared_slice_known-1.given } }))
+    ∙ ap (λ (u : Bool). cond u 15 (later (record { before = c.before.before.before; type_inv = record { board = c.shared_slice_known-1.given } }))) (sym (tested c) ∙ e)
 
 pub position_of-position-requires : goal.position_of-position-requires
 position_of-position-requires c = few_points _ _ (board (goal.at.position_of-position-requires c).Else-refusal-ne0)
