@@ -44,18 +44,18 @@ module _ (f : List ℕ) where
 
 pub returns-in_default : goal.returns-in_default
 returns-in_default c =
-    let q = c.enum_told-1.given.1 in
-    let n = c.number_of_lem.ensures ∙ ap (λ (r : Frame). number (frame_read r)) q in
+    let q = c.in_default.is in
+    let n = c.number_of.ensures ∙ ap (λ (r : Frame). number (frame_read r)) q in
     ap refused n ∙ turned_back c.args.frame.now _ (sym (ap frame_read q) ∙ c.take_apart-read.ensures)
 
 pub returns-then-sides_wrong : goal.returns-then-sides_wrong
 returns-then-sides_wrong c =
-    let g = c.read-1.given in
-    stones-turned c.args.frame.now g.0.0 g.0.1.0 g.0.1.1.0
-    (sym (ap frame_read g.1) ∙ c.take_apart-read.ensures) (sym c.if-sides_wrong.true ∙ c.sides_wrong.ensures)
+    let p = c.in-Position in
+    stones-turned c.args.frame.now p.rings p.mover p.opponent (sym (ap frame_read p.is) ∙ c.take_apart-read.ensures)
+    (sym c.if-sides_wrong.true ∙ c.sides_wrong.ensures)
 
 pub returns : goal.returns
 returns c =
-    let g = c.read-1.given in
-    position c.args.frame.now g.0.0 g.0.1.0 g.0.1.1.0
-    (sym (ap frame_read g.1) ∙ c.take_apart-read.ensures) (sym c.if-sides_wrong.false ∙ c.sides_wrong.ensures)
+    let p = c.in-Position in
+    position c.args.frame.now p.rings p.mover p.opponent (sym (ap frame_read p.is) ∙ c.take_apart-read.ensures)
+    (sym c.if-sides_wrong.false ∙ c.sides_wrong.ensures)
