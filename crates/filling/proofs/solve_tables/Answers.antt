@@ -66,10 +66,6 @@ module _ (s : Start) where
   abbrev Reached : (before : List ℕ) → Tabled (length before) → Valid before → ℕ → List ℕ → Type 0
   Reached before w valid level now = State rule takes rings k first.mover first.opponent first second before w valid limit level now
 
--- the entry of the function, seen from after a level, and the loop, seen from after the search for the next
-abbrev levelling : (c : After-level_pair) → tie.Start invariant-loop decreases-loop
-levelling c = c
-
 -- what holds where the loop begins again
 state : (x : At-loop-level) → (0 < x.loop-level.level)
     × Reached x.before.before.before.before.before.before.before.before.before.before x.args.tablebase.now x.requires.pair_solving.setting x.requires.pair_solving.valid x.loop-level.level x.loop-level.tablebase
@@ -82,20 +78,20 @@ here : (x : At-loop-level) → Tabled x.before.before.before.before.before.befor
 here x = setting_now (length x.loop-level.tablebase) (state x).1.kept.same_length x.requires.pair_solving.setting
 
 -- a level is done, over any tablebase at entry
-module _ (c : After-level_pair) (before : List ℕ) (w : Tabled (levelling c) (length before)) (valid : Valid (levelling c) before)
-    (mirrored : Mirrored (levelling c) before)
-    (st : Reached (levelling c) before w valid c.loop-level.level c.loop-level.tablebase) where
-  levelled : Kept (rings (levelling c)) (k (levelling c)) (BothTables (first (levelling c)).mover (first (levelling c)).opponent) before
+module _ (c : After-level_pair) (before : List ℕ) (w : Tabled c.before.before.before.before.before.before.before.before.before.before.before.before.before (length before)) (valid : Valid c.before.before.before.before.before.before.before.before.before.before.before.before.before before)
+    (mirrored : Mirrored c.before.before.before.before.before.before.before.before.before.before.before.before.before before)
+    (st : Reached c.before.before.before.before.before.before.before.before.before.before.before.before.before before w valid c.loop-level.level c.loop-level.tablebase) where
+  levelled : Kept (rings c.before.before.before.before.before.before.before.before.before.before.before.before.before) (k c.before.before.before.before.before.before.before.before.before.before.before.before.before) (BothTables (first c.before.before.before.before.before.before.before.before.before.before.before.before.before).mover (first c.before.before.before.before.before.before.before.before.before.before.before.before.before).opponent) before
       c.level_pair.new.tablebase
-      × ExactBelow (rule (levelling c)) (takes (levelling c)) (rings (levelling c)) (k (levelling c)) (first (levelling c)).mover
-      (first (levelling c)).opponent (first (levelling c))
-      (second (levelling c)) before w valid (suc c.loop-level.level) c.level_pair.new.tablebase
+      × ExactBelow (rule c.before.before.before.before.before.before.before.before.before.before.before.before.before) (takes c.before.before.before.before.before.before.before.before.before.before.before.before.before) (rings c.before.before.before.before.before.before.before.before.before.before.before.before.before) (k c.before.before.before.before.before.before.before.before.before.before.before.before.before) (first c.before.before.before.before.before.before.before.before.before.before.before.before.before).mover
+      (first c.before.before.before.before.before.before.before.before.before.before.before.before.before).opponent (first c.before.before.before.before.before.before.before.before.before.before.before.before.before)
+      (second c.before.before.before.before.before.before.before.before.before.before.before.before.before) before w valid (suc c.loop-level.level) c.level_pair.new.tablebase
   levelled =
       let maps : ℕ = c.args.maps in
       let g = group_of maps c.requires.pair_solving.used in
-      after_classes (rule s) (takes s) (commutes s) (rings s) (k s) (first s).mover (first s).opponent (first s) (second s) before w valid maps g
-      mirrored (least_of_class (rings s) maps) (least_picks (λ b. mover_set b) (rings s) w.pair.small maps g) c.loop-level.level
-      (state x).0 c.loop-level-test.true (limit s) c.loop-level.tablebase st c.level_pair.new.tablebase c.level_pair.ensures
+      after_classes (rule c.before.before.before.before.before.before.before.before.before.before.before.before.before) (takes c.before.before.before.before.before.before.before.before.before.before.before.before.before) (commutes c.before.before.before.before.before.before.before.before.before.before.before.before.before) (rings c.before.before.before.before.before.before.before.before.before.before.before.before.before) (k c.before.before.before.before.before.before.before.before.before.before.before.before.before) (first c.before.before.before.before.before.before.before.before.before.before.before.before.before).mover (first c.before.before.before.before.before.before.before.before.before.before.before.before.before).opponent (first c.before.before.before.before.before.before.before.before.before.before.before.before.before) (second c.before.before.before.before.before.before.before.before.before.before.before.before.before) before w valid maps g
+      mirrored (least_of_class (rings c.before.before.before.before.before.before.before.before.before.before.before.before.before) maps) (least_picks (λ b. mover_set b) (rings c.before.before.before.before.before.before.before.before.before.before.before.before.before) w.pair.small maps g) c.loop-level.level
+      (state c.before.before.before).0 c.loop-level-test.true (limit c.before.before.before.before.before.before.before.before.before.before.before.before.before) c.loop-level.tablebase st c.level_pair.new.tablebase c.level_pair.ensures
 
 -- the tables are where they were
 there : (c : After-level_pair) → Tabled c.before.before.before.before.before.before.before.before.before.before.before.before.before (length c.level_pair.new.tablebase)
@@ -156,7 +152,7 @@ returns-then-beyond c =
     c.beyond.ensures)) c.fill_tables-then-beyond.ensures
 
 pub shape_of-tablebase-then-beyond : goal.shape_of-tablebase-then-beyond
-shape_of-tablebase-then-beyond c = (returns c).kept.same_length
+shape_of-tablebase-then-beyond c = (returns-then-beyond c).kept.same_length
 
 pub pair_least-level-requires : goal.pair_least-level-requires
 pair_least-level-requires c =
@@ -190,7 +186,7 @@ loop-level-smaller c =
 
 pub loop-level-preserved : goal.loop-level-preserved
 loop-level-preserved c =
-    λ before s valid mirrored e. let n = stepped (goal.at.loop-level-preserved c).After-pair_least-level before s valid mirrored (c.loop-level.inv before s valid mirrored e).1 in (omega (arith, n.0), n.1)
+    λ before s valid mirrored e. let n = stepped (goal.at.loop-level-preserved c).After-pair_least-level before s valid mirrored (c.loop-level.invariant before s valid mirrored e).1 in (omega (arith, n.0), n.1)
 
 pub shape_of-tablebase-then-level-gt-VOID : goal.shape_of-tablebase-then-level-gt-VOID
 shape_of-tablebase-then-level-gt-VOID c = (state (goal.at.shape_of-tablebase-then-level-gt-VOID c).At-loop-level).1.kept.same_length
@@ -220,7 +216,7 @@ returns-then-pair_decided c =
     c.fill_tables-then-pair_decided.ensures
 
 pub shape_of-tablebase-then-pair_decided : goal.shape_of-tablebase-then-pair_decided
-shape_of-tablebase-then-pair_decided c = (returns-3 c).kept.same_length
+shape_of-tablebase-then-pair_decided c = (returns-then-pair_decided c).kept.same_length
 
 pub shape_of-tablebase : goal.shape_of-tablebase
 shape_of-tablebase c = (state (goal.at.shape_of-tablebase c).At-loop-level).1.kept.same_length
