@@ -63,11 +63,11 @@ best_of-requires c =
 
 pub returns-in-Blocked : goal.returns-in-Blocked
 returns-in-Blocked c =
-    sym (ap choice c.enum_told-1.given.1) ∙ chosen (goal.at.returns-in-Blocked c).After-best_of
+    sym (ap choice c.in-Blocked.is) ∙ chosen (goal.at.returns-in-Blocked c).After-best_of
 
 pub returns-in-Void : goal.returns-in-Void
 returns-in-Void c =
-    sym (ap choice c.enum_told-in-Void-1.given.1) ∙ chosen (goal.at.returns-in-Void c).After-best_of
+    sym (ap choice c.in-Void.is) ∙ chosen (goal.at.returns-in-Void c).After-best_of
 
 pub returns-in-Move : goal.returns-in-Move
-returns-in-Move c = sym (ap choice c.number-1.given.1) ∙ chosen (goal.at.returns-in-Move c).After-best_of
+returns-in-Move c = sym (ap choice c.in-Move.is) ∙ chosen (goal.at.returns-in-Move c).After-best_of
