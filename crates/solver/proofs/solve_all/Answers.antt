@@ -111,7 +111,7 @@ returns-then-deep c =
     after c.requires.all_given.room (shape_of-tablebase-then-deep c)
     (subst (PairsFilled (removable c.args.bounds.edition) c.args.bounds.rings c.args.bounds.k c.args.bounds.limit c.loop-m.m 3
     c.loop-m.tablebase) c.if-deep.true
-    c.loop-m.inv.2)
+    c.loop-m.invariant.2)
     (λ j l. (voided (goal.at.returns-then-deep c).After-slice_known-then-deep-1).1 j l)
 
 pub shape_of-tablebase : goal.shape_of-tablebase
