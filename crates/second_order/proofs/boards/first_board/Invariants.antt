@@ -1,5 +1,5 @@
 -- `second_order::boards::first_board` is safe and ends. Assumes nothing.
-use Rattle.std.proofs.Common.{◌≡◌, ◌-◌, ◌≤◌, length, rules}
+use Rattle.std.proofs.Common.{◌≡◌, ◌-◌, ◌≤◌, length}
 use Rattle.second_order.proofs.boards.first_board.Given as goal
 
 abbrev pub invariant-loop-p : goal.invariant-loop-p

@@ -1,5 +1,5 @@
 -- `second_order::boards::lowest_above` is safe and ends. Assumes nothing.
-use Rattle.std.proofs.Common.{◌-◌, ◌≤◌, rules}
+use Rattle.std.proofs.Common.{◌-◌, ◌≤◌}
 use Rattle.second_order.proofs.boards.lowest_above.Given as goal
 
 abbrev pub invariant-loop-q : goal.invariant-loop-q

@@ -1,5 +1,5 @@
 -- `second_order::boards::lowest_to_raise` is safe and ends. Assumes nothing.
-use Rattle.std.proofs.Common.{◌-◌, ◌≤◌, rules}
+use Rattle.std.proofs.Common.{◌-◌, ◌≤◌}
 use Rattle.second_order.proofs.boards.lowest_to_raise.Given as goal
 
 abbrev pub invariant-loop-p : goal.invariant-loop-p

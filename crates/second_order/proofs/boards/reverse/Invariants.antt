@@ -1,5 +1,5 @@
 -- `second_order::boards::reverse` is safe and ends. Assumes nothing.
-use Rattle.std.proofs.Common.{◌-◌, ◌/◌, ◌≤◌, rules}
+use Rattle.std.proofs.Common.{◌-◌, ◌/◌, ◌≤◌}
 use Rattle.second_order.proofs.boards.reverse.Given as goal
 
 abbrev pub invariant-loop-p : goal.invariant-loop-p

@@ -1,5 +1,5 @@
 -- `second_order::points::stones` is safe and ends. Assumes nothing.
-use Rattle.std.proofs.Common.{◌-◌, ◌≤◌, rules}
+use Rattle.std.proofs.Common.{◌-◌, ◌≤◌}
 use Rattle.second_order.proofs.points.stones.Given as goal
 
 abbrev pub invariant-loop-p : goal.invariant-loop-p

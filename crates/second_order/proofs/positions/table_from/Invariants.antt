@@ -1,5 +1,5 @@
 -- `second_order::positions::table_from` is safe and ends. Assumes nothing.
-use Rattle.std.proofs.Common.{◌-◌, rules}
+use Rattle.std.proofs.Common.{◌-◌}
 use Rattle.second_order.proofs.positions.table_from.Given as goal
 
 abbrev pub invariant-loop-table : goal.invariant-loop-table

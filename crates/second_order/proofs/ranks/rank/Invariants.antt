@@ -1,5 +1,5 @@
 -- `second_order::ranks::rank` is safe and ends. Assumes nothing.
-use Rattle.std.proofs.Common.{◌*◌, ◌≤◌, rules}
+use Rattle.std.proofs.Common.{◌*◌, ◌≤◌}
 use Rattle.second_order.proofs.ranks.rank.Given as goal
 
 abbrev pub invariant-loop-p : goal.invariant-loop-p

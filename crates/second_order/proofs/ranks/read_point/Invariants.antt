@@ -1,5 +1,5 @@
 -- `second_order::ranks::read_point` is safe and ends. Assumes nothing.
-use Rattle.std.proofs.Common.{◌+◌, ◌≤◌, rules}
+use Rattle.std.proofs.Common.{◌+◌, ◌≤◌}
 use Rattle.second_order.proofs.ranks.read_point.Given as goal
 
 abbrev pub invariant-loop-left : goal.invariant-loop-left

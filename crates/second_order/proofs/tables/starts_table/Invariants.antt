@@ -1,5 +1,5 @@
 -- `second_order::tables::starts_table` is safe and ends. Assumes nothing.
-use Rattle.std.proofs.Common.{◌≡◌, ◌-◌, ◌≤◌, length, rules}
+use Rattle.std.proofs.Common.{◌≡◌, ◌-◌, ◌≤◌, length}
 use Rattle.second_order.proofs.tables.starts_table.Given as goal
 
 abbrev pub invariant-loop-i : goal.invariant-loop-i
