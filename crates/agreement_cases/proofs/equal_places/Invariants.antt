@@ -1,5 +1,5 @@
 -- `agreement_cases::equal_places` is safe and ends. Assumes nothing.
-use Rattle.std.proofs.Common.{◌-◌, ◌≤◌, length, rules}
+use Rattle.std.proofs.Common.{◌-◌, ◌≤◌, length}
 use Rattle.agreement_cases.proofs.equal_places.Given as goal
 
 abbrev pub invariant-loop-i : goal.invariant-loop-i

@@ -1,5 +1,5 @@
 -- `agreement_cases::two_rings` is safe: the lengths by a law, since they are long to count. Assumes nothing.
-use Rattle.std.proofs.Common.{ℕ, sym, rules}
+use Rattle.std.proofs.Common.{ℕ, sym}
 use lib.ListN.{length-replicate}
 use Rattle.agreement_cases.proofs.two_rings.Goals as goal
 

@@ -2,7 +2,6 @@
 use mathlib.Core.Path.{sym}
 use Prim.Native.Nat.{ℕ}
 use lib.ListN.{length-replicate}
-use borrow.Author.Rules.{rules}
 use Rattle.check_cases.proofs.two_rings.Goals as goal
 
 pub slice_bounds-two_rings_over-end : goal.slice_bounds-two_rings_over-end

@@ -2,7 +2,6 @@
 use mathlib.Core.Path.{◌≡◌}
 use Prim.Native.Nat.{◌-◌, ◌≤◌}
 use lib.ListN.{length}
-use borrow.Author.Rules.{rules}
 use Rattle.entry_cases.proofs.digits.Given as goal
 
 abbrev pub invariant-loop-rank : goal.invariant-loop-rank

@@ -1,7 +1,6 @@
 -- `rank_cases::back` is safe and ends. Assumes nothing.
 use mathlib.Core.Path.{◌≡◌}
 use Prim.Native.Nat.{◌-◌, ◌≤◌}
-use borrow.Author.Rules.{rules}
 use lib.ListN.{length}
 use Rattle.rank_cases.proofs.back.Given as goal
 

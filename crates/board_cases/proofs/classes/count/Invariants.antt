@@ -2,7 +2,6 @@
 use mathlib.Core.Path.{◌≡◌}
 use Prim.Native.Nat.{◌-◌, ◌≤◌}
 use lib.ListN.{length}
-use borrow.Author.Rules.{rules}
 use Rattle.board_cases.proofs.classes.count.Given as goal
 
 abbrev pub invariant-loop-r : goal.invariant-loop-r

@@ -1,5 +1,5 @@
 -- `fill_cases::fills::hold` is safe and ends. Assumes nothing.
-use Rattle.std.proofs.Common.{◌≡◌, ◌-◌, ◌≤◌, length, rules}
+use Rattle.std.proofs.Common.{◌≡◌, ◌-◌, ◌≤◌, length}
 use Rattle.fill_cases.proofs.fills.hold.Given as goal
 
 abbrev pub invariant-loop-i : goal.invariant-loop-i

@@ -1,5 +1,5 @@
 -- `fill_cases::fills::two_rings_of_three` is safe: the length by a law, since it is long to count. Assumes nothing.
-use Rattle.std.proofs.Common.{ℕ, sym, rules}
+use Rattle.std.proofs.Common.{ℕ, sym}
 use lib.ListN.{length-replicate}
 use Rattle.fill_cases.proofs.fills.two_rings_of_three.Goals as goal
 
