@@ -40,8 +40,8 @@ low : (c : After-removals-removals)
     → (c.args.stone.from < 24) × (c.take_lowest-to.result.lowest < 24)
 low c =
     let l = from_low c.args.rings c.args.position c.requires.probing.placed c.args.stone.from c.take_lowest-to.result.lowest
-    (slides c.before) in
-    (omega (arith, l, c.requires.probing.placed.small), omega (arith, (slides c.before).low, c.requires.probing.placed.small))
+    (slides (goal.at.slide_number-requires c).After-take_lowest-to) in
+    (omega (arith, l, c.requires.probing.placed.small), omega (arith, (slides (goal.at.slide_number-requires c).After-take_lowest-to).low, c.requires.probing.placed.small))
 
 -- what is found of the moves to that point
 found : (c : After-some_removal)
