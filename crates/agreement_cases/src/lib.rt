@@ -4,6 +4,7 @@
 
 use fill_cases::{contents, hold, make_up, put};
 use notation::{add, end, least, print, text, wider};
+use std::io;
 
 fn at(entries: &[u16], place: usize) -> u16 {
     if place < entries.len() {
@@ -41,55 +42,71 @@ fn first_difference(entries: &[u16], others: &[u16]) -> usize {
 }
 
 // How many entries are equal, and the first that are not.
-fn agreement(entries: &[u16], others: &[u16]) {
+fn agreement(rt: &impl Print, entries: &[u16], others: &[u16]) -> io::Result<()> {
     print(
+        rt,
         b" % of % equal",
         &[equal_places(entries, others), entries.len() as u64],
-    );
+    )?;
     let place = first_difference(entries, others);
     if place < entries.len() {
         print(
+            rt,
             b", not at % % %",
             &[
                 place as u64,
                 wider(at(entries, place)),
                 wider(at(others, place)),
             ],
-        );
+        )?;
     }
+    Ok(())
 }
 
 // Whether the second solver did what it was asked for.
-fn said(did: bool) {
+fn said(rt: &impl Print, did: bool) -> io::Result<()> {
     if !did {
-        text(b" not solved,");
+        text(rt, b" not solved,")?;
     }
+    Ok(())
 }
 
 // One tablebase by either solver. The second works in the buffer that the first then fills. The buffers start with unequal entries, so that nothing left
 // as it was is taken for agreement.
-fn compare(rings: u8, edition: u8, k: u8, entries: &mut [u16], others: &mut [u16]) {
-    print(b"second % % %:", &[rings as u64, edition as u64, k as u64]);
+fn compare(
+    rt: &impl Print,
+    rings: u8,
+    edition: u8,
+    k: u8,
+    entries: &mut [u16],
+    others: &mut [u16],
+) -> io::Result<()> {
+    print(
+        rt,
+        b"second % % %:",
+        &[rings as u64, edition as u64, k as u64],
+    )?;
     hold(entries, 7);
     hold(others, 9);
-    said(second::solve(rings, edition, k, entries, others));
+    said(rt, second::solve(rings, edition, k, entries, others))?;
     morris::fill(rings, edition, k, 2000, others);
-    agreement(entries, others);
-    end();
+    agreement(rt, entries, others)?;
+    end(rt)
 }
 
 // The same pair by the library, held against it.
 fn compare_pair(
+    rt: &impl Print,
     rings: u8,
     edition: u8,
     mover: u8,
     opponent: u8,
     entries: &[u16],
     others: &mut [u16],
-) {
+) -> io::Result<()> {
     morris::fill_pair(rings, edition, mover, opponent, 4, 2000, others);
-    agreement(entries, others);
-    contents(others);
+    agreement(rt, entries, others)?;
+    contents(rt, others)
 }
 
 // A tablebase of K 4 but for one entry, so that what it gives to a pair is not symmetric.
@@ -100,6 +117,7 @@ fn fill_but(rings: u8, edition: u8, place: usize, entry: u16, tablebase: &mut [u
 
 // The pair of four and so many stones with K 4 by either solver, over such a tablebase.
 fn pair_over_change(
+    rt: &impl Print,
     rings: u8,
     edition: u8,
     opponent: u8,
@@ -107,8 +125,9 @@ fn pair_over_change(
     entry: u16,
     entries: &mut [u16],
     others: &mut [u16],
-) {
+) -> io::Result<()> {
     print(
+        rt,
         b"second pair % % 4 % 4 with % at %:",
         &[
             rings as u64,
@@ -117,30 +136,47 @@ fn pair_over_change(
             wider(entry),
             place as u64,
         ],
-    );
+    )?;
     fill_but(rings, edition, place, entry, entries);
-    said(second::solve_pair(rings, edition, 4, opponent, 4, entries, others));
+    said(
+        rt,
+        second::solve_pair(rings, edition, 4, opponent, 4, entries, others),
+    )?;
     fill_but(rings, edition, place, entry, others);
-    compare_pair(rings, edition, 4, opponent, entries, others);
+    compare_pair(rt, rings, edition, 4, opponent, entries, others)
 }
 
 // The pair (3, 4) of one ring over made-up entries.
-fn pair_over_made_up(edition: u8, depth: u16, entries: &mut [u16], others: &mut [u16]) {
+fn pair_over_made_up(
+    rt: &impl Print,
+    edition: u8,
+    depth: u16,
+    entries: &mut [u16],
+    others: &mut [u16],
+) -> io::Result<()> {
     print(
+        rt,
         b"second pair 1 % 3 4 4 over made up %:",
         &[edition as u64, wider(depth)],
-    );
+    )?;
     make_up(entries, depth);
-    said(second::solve_pair(1, edition, 3, 4, 4, entries, others));
+    said(rt, second::solve_pair(1, edition, 3, 4, 4, entries, others))?;
     make_up(others, depth);
-    compare_pair(1, edition, 3, 4, entries, others);
+    compare_pair(rt, 1, edition, 3, 4, entries, others)
 }
 
 // How many entries of a tablebase differ between the two editions.
-fn compare_editions(rings: u8, k: u8, entries: &mut [u16], others: &mut [u16]) {
+fn compare_editions(
+    rt: &impl Print,
+    rings: u8,
+    k: u8,
+    entries: &mut [u16],
+    others: &mut [u16],
+) -> io::Result<()> {
     morris::fill(rings, 1, k, 2000, entries);
     morris::fill(rings, 2, k, 2000, others);
     print(
+        rt,
         b"editions % %: % of % differ\n",
         &[
             rings as u64,
@@ -148,88 +184,98 @@ fn compare_editions(rings: u8, k: u8, entries: &mut [u16], others: &mut [u16]) {
             different_places(entries, others),
             entries.len() as u64,
         ],
-    );
+    )
 }
 
-fn one_ring(edition: u8, k: u8, length: usize) {
+fn one_ring(rt: &impl Print, edition: u8, k: u8, length: usize) -> io::Result<()> {
     let mut entries = [0u16; 1302];
     let mut others = [0u16; 1302];
     let n = least(length, 1302);
-    compare(1, edition, k, &mut entries[0..n], &mut others[0..n]);
+    compare(rt, 1, edition, k, &mut entries[0..n], &mut others[0..n])
 }
 
-fn one_ring_change(edition: u8, place: usize, entry: u16) {
+fn one_ring_change(rt: &impl Print, edition: u8, place: usize, entry: u16) -> io::Result<()> {
     let mut entries = [0u16; 1190];
     let mut others = [0u16; 1190];
-    pair_over_change(1, edition, 3, place, entry, &mut entries, &mut others);
+    pair_over_change(rt, 1, edition, 3, place, entry, &mut entries, &mut others)
 }
 
-fn one_ring_made_up(edition: u8) {
+fn one_ring_made_up(rt: &impl Print, edition: u8) -> io::Result<()> {
     let mut entries = [0u16; 1190];
     let mut others = [0u16; 1190];
-    pair_over_made_up(edition, 40, &mut entries, &mut others);
+    pair_over_made_up(rt, edition, 40, &mut entries, &mut others)
 }
 
-fn one_ring_editions(k: u8, length: usize) {
+fn one_ring_editions(rt: &impl Print, k: u8, length: usize) -> io::Result<()> {
     let mut entries = [0u16; 1302];
     let mut others = [0u16; 1302];
     let n = least(length, 1302);
-    compare_editions(1, k, &mut entries[0..n], &mut others[0..n]);
+    compare_editions(rt, 1, k, &mut entries[0..n], &mut others[0..n])
 }
 
 // The changes: a draw given as a loss; one given as a loss far deeper than any other, under edition 1 a win, so that there is a gap.
-fn one_ring_under(edition: u8) {
-    one_ring(edition, 3, 560);
-    one_ring(edition, 4, 1190);
-    one_ring(edition, 5, 1302);
-    one_ring(edition, 9, 1302);
-    one_ring_change(edition, 140, 2);
-    one_ring_change(edition, 20, 500);
-    one_ring_made_up(edition);
+fn one_ring_under(rt: &impl Print, edition: u8) -> io::Result<()> {
+    one_ring(rt, edition, 3, 560)?;
+    one_ring(rt, edition, 4, 1190)?;
+    one_ring(rt, edition, 5, 1302)?;
+    one_ring(rt, edition, 9, 1302)?;
+    one_ring_change(rt, edition, 140, 2)?;
+    one_ring_change(rt, edition, 20, 500)?;
+    one_ring_made_up(rt, edition)
 }
 
-fn two_rings_of_three(edition: u8, entries: &mut [u16], others: &mut [u16]) {
+fn two_rings_of_three(
+    rt: &impl Print,
+    edition: u8,
+    entries: &mut [u16],
+    others: &mut [u16],
+) -> io::Result<()> {
     let n = least(160160, entries.len());
     let m = least(160160, others.len());
-    compare(2, edition, 3, &mut entries[0..n], &mut others[0..m]);
+    compare(rt, 2, edition, 3, &mut entries[0..n], &mut others[0..m])
 }
 
 // The win given as a far deeper loss makes losses after a gap.
-fn two_rings_under(edition: u8, entries: &mut [u16], others: &mut [u16]) {
-    two_rings_of_three(edition, entries, others);
-    compare(2, edition, 4, entries, others);
-    pair_over_change(2, edition, 3, 5740, 500, entries, others);
+fn two_rings_under(
+    rt: &impl Print,
+    edition: u8,
+    entries: &mut [u16],
+    others: &mut [u16],
+) -> io::Result<()> {
+    two_rings_of_three(rt, edition, entries, others)?;
+    compare(rt, 2, edition, 4, entries, others)?;
+    pair_over_change(rt, 2, edition, 3, 5740, 500, entries, others)
 }
 
-fn two_rings_editions(entries: &mut [u16], others: &mut [u16]) {
+fn two_rings_editions(rt: &impl Print, entries: &mut [u16], others: &mut [u16]) -> io::Result<()> {
     let n = least(160160, entries.len());
     let m = least(160160, others.len());
-    compare_editions(2, 3, &mut entries[0..n], &mut others[0..m]);
-    compare_editions(2, 4, entries, others);
+    compare_editions(rt, 2, 3, &mut entries[0..n], &mut others[0..m])?;
+    compare_editions(rt, 2, 4, entries, others)
 }
 
 // Of four against four the draw given as a loss makes losses among the depths of the pair itself; its plies are the same in both editions, since four
 // stones never all stand in mills.
-fn two_rings_over(entries: &mut [u16], others: &mut [u16]) {
-    two_rings_under(1, entries, others);
-    pair_over_change(2, 1, 4, 179712, 0, entries, others);
-    two_rings_under(2, entries, others);
-    two_rings_editions(entries, others);
+fn two_rings_over(rt: &impl Print, entries: &mut [u16], others: &mut [u16]) -> io::Result<()> {
+    two_rings_under(rt, 1, entries, others)?;
+    pair_over_change(rt, 2, 1, 4, 179712, 0, entries, others)?;
+    two_rings_under(rt, 2, entries, others)?;
+    two_rings_editions(rt, entries, others)
 }
 
 // All in the same buffers, since the stack has room for no more.
-fn two_rings() {
+fn two_rings(rt: &impl Print) -> io::Result<()> {
     let mut entries = [0u16; 1861860];
     let mut others = [0u16; 1861860];
-    two_rings_over(&mut entries, &mut others);
+    two_rings_over(rt, &mut entries, &mut others)
 }
 
-pub fn run() {
-    one_ring_under(1);
-    one_ring_under(2);
-    one_ring_editions(3, 560);
-    one_ring_editions(4, 1190);
-    one_ring_editions(5, 1302);
-    one_ring_editions(9, 1302);
-    two_rings();
+pub fn run(rt: &impl Print) -> io::Result<()> {
+    one_ring_under(rt, 1)?;
+    one_ring_under(rt, 2)?;
+    one_ring_editions(rt, 3, 560)?;
+    one_ring_editions(rt, 4, 1190)?;
+    one_ring_editions(rt, 5, 1302)?;
+    one_ring_editions(rt, 9, 1302)?;
+    two_rings(rt)
 }

@@ -2,22 +2,23 @@
 use answers::{Represented, Unranked};
 use notation::{about, add, board_of, colon, end, least, number, refused, table, text};
 use play_cases::three_rings;
+use std::io;
 
-fn representative_of(rings: u8, board: &[u8]) {
-    about(b"representative", rings, board);
-    colon();
+fn representative_of(rt: &impl Print, rings: u8, board: &[u8]) -> io::Result<()> {
+    about(rt, b"representative", rings, board)?;
+    colon(rt)?;
     match class_calls::representative(rings, board) {
-        Represented::Rank(r) => number(r),
-        Represented::Refused(n) => refused(n),
+        Represented::Rank(r) => number(rt, r)?,
+        Represented::Refused(n) => refused(rt, n)?,
     }
-    end();
+    end(rt)
 }
 
 // The rank of the representative of a board's class.
-fn representative(rings: u8, length: usize, digits: u64) {
+fn representative(rt: &impl Print, rings: u8, length: usize, digits: u64) -> io::Result<()> {
     let board = board_of(digits);
     let n = least(length, 24);
-    representative_of(rings, &board[0..n]);
+    representative_of(rt, rings, &board[0..n])
 }
 
 // 1 where a rank is its own representative's, else 0.
@@ -43,32 +44,32 @@ fn count(rings: u8, mover: u8, opponent: u8, size: u64, board: &mut [u8]) -> u64
 }
 
 // How many classes a table has.
-fn classes(rings: u8, mover: u8, opponent: u8, size: u64) {
-    table(b"classes", rings, mover, opponent);
-    colon();
+fn classes(rt: &impl Print, rings: u8, mover: u8, opponent: u8, size: u64) -> io::Result<()> {
+    table(rt, b"classes", rings, mover, opponent)?;
+    colon(rt)?;
     let mut board = [0u8; 24];
     let n = least(8 * rings as usize, 24);
-    number(count(rings, mover, opponent, size, &mut board[0..n]));
-    end();
+    number(rt, count(rings, mover, opponent, size, &mut board[0..n]))?;
+    end(rt)
 }
 
 // A board, a turn and a mirror of it; others, one with its rings reversed, one that no game reaches; and each refusal. Then the classes of whole
 // tables.
-pub fn run() {
-    representative(1, 8, 02122011);
-    representative(1, 8, 11021220);
-    representative(1, 8, 10221201);
-    representative(1, 8, 11120202);
-    representative(1, 8, 22211100);
-    representative(2, 16, 0001001002220101);
-    representative(2, 16, 0222010100010010);
-    representative_of(3, &three_rings());
-    representative(3, 24, 222222222111);
-    representative(0, 8, 02122011);
-    representative(1, 7, 2122011);
-    representative(1, 8, 42122011);
-    representative(1, 8, 01122011);
-    classes(1, 3, 3, 560);
-    classes(1, 5, 3, 56);
-    classes(2, 3, 3, 160160);
+pub fn run(rt: &impl Print) -> io::Result<()> {
+    representative(rt, 1, 8, 02122011)?;
+    representative(rt, 1, 8, 11021220)?;
+    representative(rt, 1, 8, 10221201)?;
+    representative(rt, 1, 8, 11120202)?;
+    representative(rt, 1, 8, 22211100)?;
+    representative(rt, 2, 16, 0001001002220101)?;
+    representative(rt, 2, 16, 0222010100010010)?;
+    representative_of(rt, 3, &three_rings())?;
+    representative(rt, 3, 24, 222222222111)?;
+    representative(rt, 0, 8, 02122011)?;
+    representative(rt, 1, 7, 2122011)?;
+    representative(rt, 1, 8, 42122011)?;
+    representative(rt, 1, 8, 01122011)?;
+    classes(rt, 1, 3, 3, 560)?;
+    classes(rt, 1, 5, 3, 56)?;
+    classes(rt, 2, 3, 3, 160160)
 }

@@ -2,88 +2,101 @@
 use answers::{Frame, Framed};
 use notation::{about, board_of, colon, end, least, number, refused, space, text};
 use play_cases::three_rings;
+use std::io;
 
 // The position of a frame: its rings and its two sets.
-fn read_frame(frame: &[u8]) {
-    text(b"read frame ");
-    text(frame);
-    colon();
+fn read_frame(rt: &impl Print, frame: &[u8]) -> io::Result<()> {
+    text(rt, b"read frame ")?;
+    text(rt, frame)?;
+    colon(rt)?;
     match frame_calls::read_frame(frame) {
         Frame::Position {
             rings,
             mover,
             opponent,
         } => {
-            number(rings as u64);
-            number(mover as u64);
-            number(opponent as u64);
+            number(rt, rings as u64)?;
+            number(rt, mover as u64)?;
+            number(rt, opponent as u64)?;
         }
-        Frame::Refused(n) => refused(n),
+        Frame::Refused(n) => refused(rt, n)?,
     }
-    end();
+    end(rt)
 }
 
-fn write_over(rings: u8, board: &[u8], target: &mut [u8]) {
-    about(b"write frame", rings, board);
-    colon();
+fn write_over(rt: &impl Print, rings: u8, board: &[u8], target: &mut [u8]) -> io::Result<()> {
+    about(rt, b"write frame", rings, board)?;
+    colon(rt)?;
     match frame_calls::write_frame(rings, board, target) {
-        Framed::Length(n) => number(n as u64),
-        Framed::Refused(n) => refused(n),
+        Framed::Length(n) => number(rt, n as u64)?,
+        Framed::Refused(n) => refused(rt, n)?,
     }
-    space();
-    text(target);
-    end();
+    space(rt)?;
+    text(rt, target)?;
+    end(rt)
 }
 
 // A board as a frame, and what a target of dots then holds.
-fn write_frame(rings: u8, length: usize, digits: u64, room: usize) {
+fn write_frame(
+    rt: &impl Print,
+    rings: u8,
+    length: usize,
+    digits: u64,
+    room: usize,
+) -> io::Result<()> {
     let board = board_of(digits);
     let n = least(length, 24);
     let mut target = [46u8; 16];
     let m = least(room, 16);
-    write_over(rings, &board[0..n], &mut target[0..m]);
+    write_over(rt, rings, &board[0..n], &mut target[0..m])
 }
 
 // Each refusal of a frame.
-fn refused_frames() {
-    read_frame(b"");
-    read_frame(b"0185266");
-    read_frame(b"01852G");
-    read_frame(b"01852A");
-    read_frame(b"018526 ");
-    read_frame(b"0000000000000000000000000000000000000000000000000000000000000000");
-    read_frame(b"000000000000000000000000000000000000000000000000000000000000000000");
-    read_frame(b"008526");
-    read_frame(b"048526");
-    read_frame(b"0185");
-    read_frame(b"01852600");
-    read_frame(b"018527");
-    read_frame(b"018520");
-    read_frame(b"0211160004");
-    read_frame(b"03840084009042000000");
+fn refused_frames(rt: &impl Print) -> io::Result<()> {
+    read_frame(rt, b"")?;
+    read_frame(rt, b"0185266")?;
+    read_frame(rt, b"01852G")?;
+    read_frame(rt, b"01852A")?;
+    read_frame(rt, b"018526 ")?;
+    read_frame(
+        rt,
+        b"0000000000000000000000000000000000000000000000000000000000000000",
+    )?;
+    read_frame(
+        rt,
+        b"000000000000000000000000000000000000000000000000000000000000000000",
+    )?;
+    read_frame(rt, b"008526")?;
+    read_frame(rt, b"048526")?;
+    read_frame(rt, b"0185")?;
+    read_frame(rt, b"01852600")?;
+    read_frame(rt, b"018527")?;
+    read_frame(rt, b"018520")?;
+    read_frame(rt, b"0211160004")?;
+    read_frame(rt, b"03840084009042000000")
 }
 
 // Boards written, one that no game reaches among them: places beyond the frame and a refused target keep their dots.
-fn written() {
-    write_frame(1, 8, 02122011, 8);
-    write_frame(1, 8, 11120202, 6);
-    write_frame(1, 8, 11120202, 5);
-    write_frame(2, 16, 0001001002220101, 10);
-    write_over(3, &three_rings(), &mut [46; 16]);
-    write_frame(3, 24, 222222222111, 16);
-    write_frame(0, 8, 02122011, 6);
-    write_frame(1, 7, 2122011, 6);
-    write_frame(1, 8, 32122011, 6);
-    write_frame(1, 8, 00122011, 2);
+fn written(rt: &impl Print) -> io::Result<()> {
+    write_frame(rt, 1, 8, 02122011, 8)?;
+    write_frame(rt, 1, 8, 11120202, 6)?;
+    write_frame(rt, 1, 8, 11120202, 5)?;
+    write_frame(rt, 2, 16, 0001001002220101, 10)?;
+    write_over(rt, 3, &three_rings(), &mut [46; 16])?;
+    write_frame(rt, 3, 24, 222222222111, 16)?;
+    write_frame(rt, 0, 8, 02122011, 6)?;
+    write_frame(rt, 1, 7, 2122011, 6)?;
+    write_frame(rt, 1, 8, 32122011, 6)?;
+    write_frame(rt, 1, 8, 00122011, 2)
 }
 
 // First document 01's two frames, one of two and one of three rings, and one that no game reaches.
-pub fn run() {
-    read_frame(b"018526");
-    read_frame(b"012256");
-    read_frame(b"02112a0401");
-    read_frame(b"03840084009042");
-    read_frame(b"0395aaaa000000");
-    refused_frames();
-    written();
+pub fn run(rt: &impl Print) -> io::Result<()> {
+    read_frame(rt, b"018526")?;
+    read_frame(rt, b"012256")?;
+    read_frame(rt, b"02112a0401")?;
+    read_frame(rt, b"03840084009042")?;
+    read_frame(rt, b"0395aaaa000000")?;
+    refused_frames(rt)?;
+    written(rt)
 }

@@ -4,7 +4,9 @@
 mod classes;
 mod frames;
 
-pub fn run() {
-    classes::run();
-    frames::run();
+use std::io;
+
+pub fn run(rt: &impl Print) -> io::Result<()> {
+    classes::run(rt)?;
+    frames::run(rt)
 }

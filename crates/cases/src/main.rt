@@ -2,12 +2,14 @@
 // `stdout`; nothing of it is proved.
 #![tactic(auto)]
 
-fn main() {
-    rank_cases::run();
-    play_cases::run();
-    board_cases::run();
-    fill_cases::run();
-    entry_cases::run();
-    agreement_cases::run();
-    check_cases::run();
+use std::io;
+
+fn main(rt: HostRuntime) -> io::Result<()> {
+    rank_cases::run(&rt)?;
+    play_cases::run(&rt)?;
+    board_cases::run(&rt)?;
+    fill_cases::run(&rt)?;
+    entry_cases::run(&rt)?;
+    agreement_cases::run(&rt)?;
+    check_cases::run(&rt)
 }

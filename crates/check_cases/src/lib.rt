@@ -7,10 +7,12 @@ use changes::{Change, write_anew};
 use fill_cases::{DRAW_ENTRY, VOID_ENTRY, contents, hold, put};
 use morris::Checked;
 use notation::{colon, end, least, number, print, refused, text, wider};
+use std::io;
 
 // The call, and how many entries it is lent.
-fn about(rings: u8, edition: u8, k: u8, tablebase: &[u16]) {
+fn about(rt: &impl Print, rings: u8, edition: u8, k: u8, tablebase: &[u16]) -> io::Result<()> {
     print(
+        rt,
         b"check % % % over %",
         &[
             rings as u64,
@@ -18,132 +20,154 @@ fn about(rings: u8, edition: u8, k: u8, tablebase: &[u16]) {
             k as u64,
             tablebase.len() as u64,
         ],
-    );
+    )
 }
 
-fn answer(rings: u8, edition: u8, k: u8, tablebase: &[u16]) {
-    colon();
+fn answer(rt: &impl Print, rings: u8, edition: u8, k: u8, tablebase: &[u16]) -> io::Result<()> {
+    colon(rt)?;
     match morris::check(rings, edition, k, tablebase) {
-        Checked::Passed => text(b" passed"),
+        Checked::Passed => text(rt, b" passed"),
         Checked::Fails(index) => {
-            text(b" fails at");
-            number(index);
+            text(rt, b" fails at")?;
+            number(rt, index)
         }
-        Checked::Refused(n) => refused(n),
+        Checked::Refused(n) => refused(rt, n),
     }
 }
 
 // A tablebase as a fill under one edition made it, checked under the same or the other.
-fn filled(under: u8, rings: u8, edition: u8, k: u8, tablebase: &[u16]) {
-    about(rings, edition, k, tablebase);
-    print(b" filled under %", &[under as u64]);
-    answer(rings, edition, k, tablebase);
-    end();
+fn filled(
+    rt: &impl Print,
+    under: u8,
+    rings: u8,
+    edition: u8,
+    k: u8,
+    tablebase: &[u16],
+) -> io::Result<()> {
+    about(rt, rings, edition, k, tablebase)?;
+    print(rt, b" filled under %", &[under as u64])?;
+    answer(rt, rings, edition, k, tablebase)?;
+    end(rt)
 }
 
 // Both editions; K 9 has the same places, and the first of them are those of K 3.
-fn one_ring_filled(under: u8) {
+fn one_ring_filled(rt: &impl Print, under: u8) -> io::Result<()> {
     let mut tablebase = [0u16; 1302];
     morris::fill(1, under, 5, 2000, &mut tablebase);
-    filled(under, 1, 1, 5, &tablebase);
-    filled(under, 1, 2, 5, &tablebase);
-    filled(under, 1, under, 9, &tablebase);
-    filled(under, 1, under, 3, &tablebase[0..560]);
+    filled(rt, under, 1, 1, 5, &tablebase)?;
+    filled(rt, under, 1, 2, 5, &tablebase)?;
+    filled(rt, under, 1, under, 9, &tablebase)?;
+    filled(rt, under, 1, under, 3, &tablebase[0..560])
 }
 
 // A tablebase filled under edition 1 but for one entry.
-fn with_entry(rings: u8, k: u8, place: usize, entry: u16, tablebase: &mut [u16]) {
+fn with_entry(
+    rt: &impl Print,
+    rings: u8,
+    k: u8,
+    place: usize,
+    entry: u16,
+    tablebase: &mut [u16],
+) -> io::Result<()> {
     morris::fill(rings, 1, k, 2000, tablebase);
     put(tablebase, place, entry);
-    about(rings, 1, k, tablebase);
+    about(rt, rings, 1, k, tablebase)?;
     print(
+        rt,
         b" filled under 1 with % at %",
         &[wider(entry), place as u64],
-    );
-    answer(rings, 1, k, tablebase);
-    end();
+    )?;
+    answer(rt, rings, 1, k, tablebase)?;
+    end(rt)
 }
 
-fn one_ring_with(place: usize, entry: u16) {
+fn one_ring_with(rt: &impl Print, place: usize, entry: u16) -> io::Result<()> {
     let mut tablebase = [0u16; 1302];
-    with_entry(1, 5, place, entry, &mut tablebase);
+    with_entry(rt, 1, 5, place, entry, &mut tablebase)
 }
 
 // A win, a loss, a draw and a blocked mover's entry written as others, in the first place and in the last.
-fn wrong_themselves() {
-    one_ring_with(117, 3);
-    one_ring_with(117, 65533);
-    one_ring_with(0, DRAW_ENTRY);
-    one_ring_with(225, 4);
-    one_ring_with(225, DRAW_ENTRY);
-    one_ring_with(4, 1);
-    one_ring_with(4, 2);
-    one_ring_with(4, VOID_ENTRY);
-    one_ring_with(1301, 2);
-    one_ring_with(1301, DRAW_ENTRY);
-    one_ring_with(1301, VOID_ENTRY);
+fn wrong_themselves(rt: &impl Print) -> io::Result<()> {
+    one_ring_with(rt, 117, 3)?;
+    one_ring_with(rt, 117, 65533)?;
+    one_ring_with(rt, 0, DRAW_ENTRY)?;
+    one_ring_with(rt, 225, 4)?;
+    one_ring_with(rt, 225, DRAW_ENTRY)?;
+    one_ring_with(rt, 4, 1)?;
+    one_ring_with(rt, 4, 2)?;
+    one_ring_with(rt, 4, VOID_ENTRY)?;
+    one_ring_with(rt, 1301, 2)?;
+    one_ring_with(rt, 1301, DRAW_ENTRY)?;
+    one_ring_with(rt, 1301, VOID_ENTRY)
 }
 
 // Wins in one, with a loss in 2 or in 4 among their successors, by which they are not right. Then changes by which a position before them is not.
-fn wrong_by_successors() {
-    one_ring_with(3, 3);
-    one_ring_with(561, 5);
-    one_ring_with(117, 0);
-    one_ring_with(1020, 2);
-    one_ring_with(1020, VOID_ENTRY);
+fn wrong_by_successors(rt: &impl Print) -> io::Result<()> {
+    one_ring_with(rt, 3, 3)?;
+    one_ring_with(rt, 561, 5)?;
+    one_ring_with(rt, 117, 0)?;
+    one_ring_with(rt, 1020, 2)?;
+    one_ring_with(rt, 1020, VOID_ENTRY)
 }
 
 // One entry throughout, in a buffer of so many entries, 1303 at most.
-fn throughout(rings: u8, edition: u8, k: u8, length: usize, entry: u16) {
+fn throughout(
+    rt: &impl Print,
+    rings: u8,
+    edition: u8,
+    k: u8,
+    length: usize,
+    entry: u16,
+) -> io::Result<()> {
     let mut entries = [0u16; 1303];
     let n = least(length, 1303);
     let tablebase = &mut entries[0..n];
     hold(tablebase, entry);
-    about(rings, edition, k, tablebase);
-    print(b" of %", &[wider(entry)]);
-    answer(rings, edition, k, tablebase);
-    end();
+    about(rt, rings, edition, k, tablebase)?;
+    print(rt, b" of %", &[wider(entry)])?;
+    answer(rt, rings, edition, k, tablebase)?;
+    end(rt)
 }
 
 // All of one kind.
-fn uniform() {
-    throughout(1, 1, 5, 1302, DRAW_ENTRY);
-    throughout(1, 1, 5, 1302, VOID_ENTRY);
-    throughout(1, 1, 5, 1302, 0);
-    throughout(1, 1, 5, 1302, 1);
-    throughout(1, 1, 5, 1302, 65533);
+fn uniform(rt: &impl Print) -> io::Result<()> {
+    throughout(rt, 1, 1, 5, 1302, DRAW_ENTRY)?;
+    throughout(rt, 1, 1, 5, 1302, VOID_ENTRY)?;
+    throughout(rt, 1, 1, 5, 1302, 0)?;
+    throughout(rt, 1, 1, 5, 1302, 1)?;
+    throughout(rt, 1, 1, 5, 1302, 65533)
 }
 
 // Each refusal; then the first of two.
-fn refusals() {
-    throughout(0, 1, 5, 1302, 7);
-    throughout(4, 1, 5, 1302, 7);
-    throughout(1, 0, 5, 1302, 7);
-    throughout(1, 3, 5, 1302, 7);
-    throughout(1, 1, 2, 1302, 7);
-    throughout(1, 1, 10, 1302, 7);
-    throughout(1, 1, 5, 1301, 7);
-    throughout(1, 1, 5, 1303, 7);
-    throughout(1, 1, 5, 0, 7);
-    throughout(1, 1, 4, 1302, 7);
-    throughout(2, 1, 5, 1302, 7);
-    throughout(4, 3, 5, 1302, 7);
-    throughout(0, 1, 2, 1302, 7);
-    throughout(4, 1, 5, 1301, 7);
-    throughout(1, 0, 2, 1302, 7);
-    throughout(1, 3, 5, 1301, 7);
-    throughout(1, 1, 2, 1301, 7);
-    throughout(1, 1, 10, 0, 7);
+fn refusals(rt: &impl Print) -> io::Result<()> {
+    throughout(rt, 0, 1, 5, 1302, 7)?;
+    throughout(rt, 4, 1, 5, 1302, 7)?;
+    throughout(rt, 1, 0, 5, 1302, 7)?;
+    throughout(rt, 1, 3, 5, 1302, 7)?;
+    throughout(rt, 1, 1, 2, 1302, 7)?;
+    throughout(rt, 1, 1, 10, 1302, 7)?;
+    throughout(rt, 1, 1, 5, 1301, 7)?;
+    throughout(rt, 1, 1, 5, 1303, 7)?;
+    throughout(rt, 1, 1, 5, 0, 7)?;
+    throughout(rt, 1, 1, 4, 1302, 7)?;
+    throughout(rt, 2, 1, 5, 1302, 7)?;
+    throughout(rt, 4, 3, 5, 1302, 7)?;
+    throughout(rt, 0, 1, 2, 1302, 7)?;
+    throughout(rt, 4, 1, 5, 1301, 7)?;
+    throughout(rt, 1, 0, 2, 1302, 7)?;
+    throughout(rt, 1, 3, 5, 1301, 7)?;
+    throughout(rt, 1, 1, 2, 1301, 7)?;
+    throughout(rt, 1, 1, 10, 0, 7)
 }
 
-fn marks_alone() {
+fn marks_alone(rt: &impl Print) -> io::Result<()> {
     let mut tablebase = [0u16; 1302];
     morris::fill(1, 1, 5, 2000, &mut tablebase);
     write_anew(&mut tablebase, Change::Marks);
-    about(1, 1, 5, &tablebase);
-    text(b" filled under 1 with marks alone");
-    answer(1, 1, 5, &tablebase);
-    contents(&tablebase);
+    about(rt, 1, 1, 5, &tablebase)?;
+    text(rt, b" filled under 1 with marks alone")?;
+    answer(rt, 1, 1, 5, &tablebase)?;
+    contents(rt, &tablebase)
 }
 
 // A depth written over the draws between two places.
@@ -154,28 +178,29 @@ fn decide(tablebase: &mut [u16], start: usize, end: usize, depth: u16) {
 }
 
 // The draws of three against four, and those of four against three, as depths.
-fn draws_as(first: u16, second: u16) {
+fn draws_as(rt: &impl Print, first: u16, second: u16) -> io::Result<()> {
     let mut tablebase = [0u16; 1302];
     morris::fill(1, 1, 5, 2000, &mut tablebase);
     decide(&mut tablebase, 560, 840, first);
     decide(&mut tablebase, 896, 1176, second);
-    about(1, 1, 5, &tablebase);
+    about(rt, 1, 1, 5, &tablebase)?;
     print(
+        rt,
         b" filled under 1 with draws of 3 4 as % and of 4 3 as %",
         &[wider(first), wider(second)],
-    );
-    answer(1, 1, 5, &tablebase);
-    contents(&tablebase);
+    )?;
+    answer(rt, 1, 1, 5, &tablebase)?;
+    contents(rt, &tablebase)
 }
 
 // Wins and losses whose marks hold each other up: such a loss comes after each such win, and wins alone after each such loss. By their depths the wins
 // are right or the losses, never both. Then a void, which is no loss after a win, and one that is not right whatever wins come after it.
-fn families() {
-    draws_as(7, 6);
-    draws_as(7, 8);
-    draws_as(65533, 65532);
-    draws_as(65533, VOID_ENTRY);
-    draws_as(VOID_ENTRY, 65533);
+fn families(rt: &impl Print) -> io::Result<()> {
+    draws_as(rt, 7, 6)?;
+    draws_as(rt, 7, 8)?;
+    draws_as(rt, 65533, 65532)?;
+    draws_as(rt, 65533, VOID_ENTRY)?;
+    draws_as(rt, VOID_ENTRY, 65533)
 }
 
 // A pair filled, and written anew before a larger one is filled over it.
@@ -193,78 +218,79 @@ fn fill_in_pairs(rings: u8, k: u8, change: Change, tablebase: &mut [u16]) {
 }
 
 // As the buyers' old library made it: a cap as the depth of what ends beyond it, and larger tables over that number.
-fn with_cap(rings: u8, k: u8, cap: u16, tablebase: &mut [u16]) {
+fn with_cap(rt: &impl Print, rings: u8, k: u8, cap: u16, tablebase: &mut [u16]) -> io::Result<()> {
     fill_in_pairs(rings, k, Change::Cap(cap), tablebase);
-    about(rings, 1, k, tablebase);
-    print(b" filled in pairs under 1 with cap %", &[wider(cap)]);
-    answer(rings, 1, k, tablebase);
-    contents(tablebase);
+    about(rt, rings, 1, k, tablebase)?;
+    print(rt, b" filled in pairs under 1 with cap %", &[wider(cap)])?;
+    answer(rt, rings, 1, k, tablebase)?;
+    contents(rt, tablebase)
 }
 
 // The same with the cap over draws too, which are as open at the cap.
-fn with_cap_over_draws(cap: u16, tablebase: &mut [u16]) {
+fn with_cap_over_draws(rt: &impl Print, cap: u16, tablebase: &mut [u16]) -> io::Result<()> {
     fill_in_pairs(1, 5, Change::CapAll(cap), tablebase);
-    about(1, 1, 5, tablebase);
+    about(rt, 1, 1, 5, tablebase)?;
     print(
+        rt,
         b" filled in pairs under 1 with cap % over draws too",
         &[wider(cap)],
-    );
-    answer(1, 1, 5, tablebase);
-    contents(tablebase);
+    )?;
+    answer(rt, 1, 1, 5, tablebase)?;
+    contents(rt, tablebase)
 }
 
 // No depth is above 5.
-fn one_ring_caps(tablebase: &mut [u16]) {
-    with_cap(1, 5, 5, tablebase);
-    with_cap(1, 5, 4, tablebase);
-    with_cap(1, 5, 3, tablebase);
-    with_cap(1, 5, 2, tablebase);
-    with_cap(1, 5, 1, tablebase);
-    with_cap_over_draws(5, tablebase);
-    with_cap_over_draws(4, tablebase);
+fn one_ring_caps(rt: &impl Print, tablebase: &mut [u16]) -> io::Result<()> {
+    with_cap(rt, 1, 5, 5, tablebase)?;
+    with_cap(rt, 1, 5, 4, tablebase)?;
+    with_cap(rt, 1, 5, 3, tablebase)?;
+    with_cap(rt, 1, 5, 2, tablebase)?;
+    with_cap(rt, 1, 5, 1, tablebase)?;
+    with_cap_over_draws(rt, 5, tablebase)?;
+    with_cap_over_draws(rt, 4, tablebase)
 }
 
 // Losses by their quickest successor, not by their slowest; a win by its slowest; a void after a draw that has no other successor but wins; the last
 // entry as a win, and as a loss before which a draw is not right.
-fn two_rings_with(tablebase: &mut [u16]) {
-    with_entry(2, 4, 9809, 2, tablebase);
-    with_entry(2, 4, 1521238, 6, tablebase);
-    with_entry(2, 4, 1861789, 5, tablebase);
-    with_entry(2, 4, 33841, VOID_ENTRY, tablebase);
-    with_entry(2, 4, 1861859, 1, tablebase);
-    with_entry(2, 4, 1861859, 2, tablebase);
+fn two_rings_with(rt: &impl Print, tablebase: &mut [u16]) -> io::Result<()> {
+    with_entry(rt, 2, 4, 9809, 2, tablebase)?;
+    with_entry(rt, 2, 4, 1521238, 6, tablebase)?;
+    with_entry(rt, 2, 4, 1861789, 5, tablebase)?;
+    with_entry(rt, 2, 4, 33841, VOID_ENTRY, tablebase)?;
+    with_entry(rt, 2, 4, 1861859, 1, tablebase)?;
+    with_entry(rt, 2, 4, 1861859, 2, tablebase)
 }
 
-fn two_rings_filled(under: u8, tablebase: &mut [u16]) {
+fn two_rings_filled(rt: &impl Print, under: u8, tablebase: &mut [u16]) -> io::Result<()> {
     morris::fill(2, under, 4, 2000, tablebase);
-    filled(under, 2, 1, 4, tablebase);
-    filled(under, 2, 2, 4, tablebase);
+    filled(rt, under, 2, 1, 4, tablebase)?;
+    filled(rt, under, 2, 2, 4, tablebase)
 }
 
 // No depth is above 13, and none of three against three above 9.
-fn two_rings_over(tablebase: &mut [u16]) {
-    two_rings_filled(1, tablebase);
-    two_rings_filled(2, tablebase);
-    two_rings_with(tablebase);
-    with_cap(2, 4, 9, tablebase);
-    with_cap(2, 4, 2, tablebase);
+fn two_rings_over(rt: &impl Print, tablebase: &mut [u16]) -> io::Result<()> {
+    two_rings_filled(rt, 1, tablebase)?;
+    two_rings_filled(rt, 2, tablebase)?;
+    two_rings_with(rt, tablebase)?;
+    with_cap(rt, 2, 4, 9, tablebase)?;
+    with_cap(rt, 2, 4, 2, tablebase)
 }
 
 // All in one buffer, since the stack has little more room.
-fn two_rings() {
+fn two_rings(rt: &impl Print) -> io::Result<()> {
     let mut tablebase = [0u16; 1861860];
-    two_rings_over(&mut tablebase);
+    two_rings_over(rt, &mut tablebase)
 }
 
-pub fn run() {
-    one_ring_filled(1);
-    one_ring_filled(2);
-    uniform();
-    wrong_themselves();
-    wrong_by_successors();
-    marks_alone();
-    families();
-    one_ring_caps(&mut [0; 1302]);
-    refusals();
-    two_rings();
+pub fn run(rt: &impl Print) -> io::Result<()> {
+    one_ring_filled(rt, 1)?;
+    one_ring_filled(rt, 2)?;
+    uniform(rt)?;
+    wrong_themselves(rt)?;
+    wrong_by_successors(rt)?;
+    marks_alone(rt)?;
+    families(rt)?;
+    one_ring_caps(rt, &mut [0; 1302])?;
+    refusals(rt)?;
+    two_rings(rt)
 }

@@ -6,129 +6,154 @@ use morris::{Chosen, Looked, Unranked};
 use notation::{
     about_under, board_of, colon, end, least, number, print, refused, text, wider, with_digit,
 };
+use std::io;
 
 // The entry of a board of so many points in a tablebase of largest count k.
-fn lookup(rings: u8, edition: u8, length: usize, digits: u64, k: u8, tablebase: &[u16]) {
+fn lookup(
+    rt: &impl Print,
+    rings: u8,
+    edition: u8,
+    length: usize,
+    digits: u64,
+    k: u8,
+    tablebase: &[u16],
+) -> io::Result<()> {
     let all = board_of(digits);
     let points = least(length, 24);
     let board = &all[0..points];
-    about_under(b"lookup", rings, edition, board);
-    number(k as u64);
-    colon();
+    about_under(rt, b"lookup", rings, edition, board)?;
+    number(rt, k as u64)?;
+    colon(rt)?;
     match morris::lookup(rings, edition, board, k, tablebase) {
-        Looked::Entry(e) => number(wider(e)),
-        Looked::Refused(n) => refused(n),
+        Looked::Entry(e) => number(rt, wider(e))?,
+        Looked::Refused(n) => refused(rt, n)?,
     }
-    end();
+    end(rt)
 }
 
 // The best move of a board, and the entry of the successor that it leads to.
-fn best_move(rings: u8, edition: u8, length: usize, digits: u64, k: u8, tablebase: &[u16]) {
+fn best_move(
+    rt: &impl Print,
+    rings: u8,
+    edition: u8,
+    length: usize,
+    digits: u64,
+    k: u8,
+    tablebase: &[u16],
+) -> io::Result<()> {
     let all = board_of(digits);
     let points = least(length, 24);
     let board = &all[0..points];
-    about_under(b"best move", rings, edition, board);
-    number(k as u64);
-    colon();
+    about_under(rt, b"best move", rings, edition, board)?;
+    number(rt, k as u64)?;
+    colon(rt)?;
     match morris::best_move(rings, edition, board, k, tablebase) {
         Chosen::Move { number: n, entry } => {
-            number(wider(n));
-            number(wider(entry));
+            number(rt, wider(n))?;
+            number(rt, wider(entry))?;
         }
-        Chosen::Refused(n) => refused(n),
+        Chosen::Refused(n) => refused(rt, n)?,
     }
-    end();
+    end(rt)
 }
 
 // The entry of a board, and its best move.
-fn both(rings: u8, edition: u8, length: usize, digits: u64, k: u8, tablebase: &[u16]) {
-    lookup(rings, edition, length, digits, k, tablebase);
-    best_move(rings, edition, length, digits, k, tablebase);
+fn both(
+    rt: &impl Print,
+    rings: u8,
+    edition: u8,
+    length: usize,
+    digits: u64,
+    k: u8,
+    tablebase: &[u16],
+) -> io::Result<()> {
+    lookup(rt, rings, edition, length, digits, k, tablebase)?;
+    best_move(rt, rings, edition, length, digits, k, tablebase)
 }
 
 // Document 01's two boards, four against four, five against three, and a draw; K 9 has the same places; two boards whose entries are others under
 // edition 2. Then each refusal but 12, 15 and 20, and the first of two.
-fn lookups(tablebase: &[u16]) {
-    lookup(1, 1, 8, 02122011, 5, tablebase);
-    lookup(1, 1, 8, 11120202, 5, tablebase);
-    lookup(1, 1, 8, 11112222, 5, tablebase);
-    lookup(1, 1, 8, 11212121, 5, tablebase);
-    lookup(1, 1, 8, 00121122, 5, tablebase);
-    lookup(1, 1, 8, 02122011, 9, tablebase);
-    lookup(1, 1, 8, 11212121, 9, tablebase);
-    lookup(1, 1, 8, 01011222, 5, tablebase);
-    lookup(1, 1, 8, 10111222, 5, tablebase);
-    lookup(0, 1, 8, 02122011, 5, tablebase);
-    lookup(4, 1, 3, 011, 5, tablebase);
-    lookup(1, 1, 7, 2122011, 5, tablebase);
-    lookup(2, 1, 8, 32122011, 5, tablebase);
-    lookup(1, 1, 8, 32122011, 5, tablebase);
-    lookup(1, 1, 8, 02322011, 5, tablebase);
-    lookup(1, 1, 8, 02022011, 2, tablebase);
-    lookup(1, 1, 8, 02122011, 2, tablebase);
-    lookup(1, 1, 8, 02122011, 10, tablebase);
-    lookup(1, 1, 8, 11212121, 4, tablebase);
-    lookup(1, 1, 8, 02122011, 4, tablebase);
+fn lookups(rt: &impl Print, tablebase: &[u16]) -> io::Result<()> {
+    lookup(rt, 1, 1, 8, 02122011, 5, tablebase)?;
+    lookup(rt, 1, 1, 8, 11120202, 5, tablebase)?;
+    lookup(rt, 1, 1, 8, 11112222, 5, tablebase)?;
+    lookup(rt, 1, 1, 8, 11212121, 5, tablebase)?;
+    lookup(rt, 1, 1, 8, 00121122, 5, tablebase)?;
+    lookup(rt, 1, 1, 8, 02122011, 9, tablebase)?;
+    lookup(rt, 1, 1, 8, 11212121, 9, tablebase)?;
+    lookup(rt, 1, 1, 8, 01011222, 5, tablebase)?;
+    lookup(rt, 1, 1, 8, 10111222, 5, tablebase)?;
+    lookup(rt, 0, 1, 8, 02122011, 5, tablebase)?;
+    lookup(rt, 4, 1, 3, 011, 5, tablebase)?;
+    lookup(rt, 1, 1, 7, 2122011, 5, tablebase)?;
+    lookup(rt, 2, 1, 8, 32122011, 5, tablebase)?;
+    lookup(rt, 1, 1, 8, 32122011, 5, tablebase)?;
+    lookup(rt, 1, 1, 8, 02322011, 5, tablebase)?;
+    lookup(rt, 1, 1, 8, 02022011, 2, tablebase)?;
+    lookup(rt, 1, 1, 8, 02122011, 2, tablebase)?;
+    lookup(rt, 1, 1, 8, 02122011, 10, tablebase)?;
+    lookup(rt, 1, 1, 8, 11212121, 4, tablebase)?;
+    lookup(rt, 1, 1, 8, 02122011, 4, tablebase)
 }
 
 // 20 after 1 and before each other refusal but 12 and 15.
-fn lookups_by_edition(tablebase: &[u16]) {
-    lookup(1, 0, 8, 02122011, 5, tablebase);
-    lookup(1, 3, 8, 02122011, 5, tablebase);
-    lookup(4, 3, 3, 011, 5, tablebase);
-    lookup(1, 0, 7, 2122011, 5, tablebase);
-    lookup(1, 3, 8, 02322011, 5, tablebase);
-    lookup(1, 0, 8, 02022011, 5, tablebase);
-    lookup(1, 3, 8, 02122011, 2, tablebase);
-    lookup(1, 0, 8, 02122011, 4, tablebase);
+fn lookups_by_edition(rt: &impl Print, tablebase: &[u16]) -> io::Result<()> {
+    lookup(rt, 1, 0, 8, 02122011, 5, tablebase)?;
+    lookup(rt, 1, 3, 8, 02122011, 5, tablebase)?;
+    lookup(rt, 4, 3, 3, 011, 5, tablebase)?;
+    lookup(rt, 1, 0, 7, 2122011, 5, tablebase)?;
+    lookup(rt, 1, 3, 8, 02322011, 5, tablebase)?;
+    lookup(rt, 1, 0, 8, 02022011, 5, tablebase)?;
+    lookup(rt, 1, 3, 8, 02122011, 2, tablebase)?;
+    lookup(rt, 1, 0, 8, 02122011, 4, tablebase)
 }
 
 // Document 01's two boards; the last listed of three wins, a draw rather than a loss, a capture before a lower number of equal worth; a
 // blocked mover; two boards whose entries are others under edition 2. Then each refusal but 12, 15 and 20, and the first of two.
-fn best_moves(tablebase: &[u16]) {
-    best_move(1, 1, 8, 02122011, 5, tablebase);
-    best_move(1, 1, 8, 11120202, 5, tablebase);
-    best_move(1, 1, 8, 01121222, 5, tablebase);
-    best_move(1, 1, 8, 00121122, 5, tablebase);
-    best_move(1, 1, 8, 01221221, 5, tablebase);
-    best_move(1, 1, 8, 11112222, 5, tablebase);
-    best_move(1, 1, 8, 01011222, 5, tablebase);
-    best_move(1, 1, 8, 10111222, 5, tablebase);
-    best_move(0, 1, 3, 011, 5, tablebase);
-    best_move(1, 1, 7, 2122011, 5, tablebase);
-    best_move(1, 1, 8, 02322011, 5, tablebase);
-    best_move(1, 1, 8, 02022011, 2, tablebase);
-    best_move(1, 1, 8, 11212121, 4, tablebase);
-    best_move(1, 1, 8, 11112222, 4, tablebase);
+fn best_moves(rt: &impl Print, tablebase: &[u16]) -> io::Result<()> {
+    best_move(rt, 1, 1, 8, 02122011, 5, tablebase)?;
+    best_move(rt, 1, 1, 8, 11120202, 5, tablebase)?;
+    best_move(rt, 1, 1, 8, 01121222, 5, tablebase)?;
+    best_move(rt, 1, 1, 8, 00121122, 5, tablebase)?;
+    best_move(rt, 1, 1, 8, 01221221, 5, tablebase)?;
+    best_move(rt, 1, 1, 8, 11112222, 5, tablebase)?;
+    best_move(rt, 1, 1, 8, 01011222, 5, tablebase)?;
+    best_move(rt, 1, 1, 8, 10111222, 5, tablebase)?;
+    best_move(rt, 0, 1, 3, 011, 5, tablebase)?;
+    best_move(rt, 1, 1, 7, 2122011, 5, tablebase)?;
+    best_move(rt, 1, 1, 8, 02322011, 5, tablebase)?;
+    best_move(rt, 1, 1, 8, 02022011, 2, tablebase)?;
+    best_move(rt, 1, 1, 8, 11212121, 4, tablebase)?;
+    best_move(rt, 1, 1, 8, 11112222, 4, tablebase)
 }
 
 // 20 after 1 and before each other refusal but 12 and 15.
-fn best_moves_by_edition(tablebase: &[u16]) {
-    best_move(1, 0, 8, 02122011, 5, tablebase);
-    best_move(1, 3, 8, 02122011, 5, tablebase);
-    best_move(4, 3, 3, 011, 5, tablebase);
-    best_move(1, 0, 7, 2122011, 5, tablebase);
-    best_move(1, 3, 8, 02322011, 5, tablebase);
-    best_move(1, 0, 8, 02022011, 5, tablebase);
-    best_move(1, 3, 8, 02122011, 2, tablebase);
-    best_move(1, 0, 8, 02122011, 4, tablebase);
-    best_move(1, 3, 8, 11112222, 5, tablebase);
+fn best_moves_by_edition(rt: &impl Print, tablebase: &[u16]) -> io::Result<()> {
+    best_move(rt, 1, 0, 8, 02122011, 5, tablebase)?;
+    best_move(rt, 1, 3, 8, 02122011, 5, tablebase)?;
+    best_move(rt, 4, 3, 3, 011, 5, tablebase)?;
+    best_move(rt, 1, 0, 7, 2122011, 5, tablebase)?;
+    best_move(rt, 1, 3, 8, 02322011, 5, tablebase)?;
+    best_move(rt, 1, 0, 8, 02022011, 5, tablebase)?;
+    best_move(rt, 1, 3, 8, 02122011, 2, tablebase)?;
+    best_move(rt, 1, 0, 8, 02122011, 4, tablebase)?;
+    best_move(rt, 1, 3, 8, 11112222, 5, tablebase)
 }
 
 // Nine stones against a mill on three rings, of either side, with K 9 and K 2; under edition 2; 4, 20 and 2 before 15. Then nine against three that are no
 // mill, eight against a mill, and nine against a mill on two rings.
-fn unreachable(tablebase: &[u16]) {
-    both(3, 1, 24, 222222222111, 9, tablebase);
-    both(3, 1, 24, 222222222111, 2, tablebase);
-    both(3, 2, 24, 222222222111, 9, tablebase);
-    both(3, 1, 24, 111111111222, 9, tablebase);
-    both(3, 2, 24, 111111111222, 2, tablebase);
-    both(3, 1, 24, 2222222221111111111, 9, tablebase);
-    both(3, 3, 24, 222222222111, 9, tablebase);
-    both(3, 1, 23, 222222222111, 9, tablebase);
-    both(3, 1, 24, 2222222221011, 9, tablebase);
-    both(3, 1, 24, 22222222111, 9, tablebase);
-    both(2, 1, 16, 222222222111, 9, tablebase);
+fn unreachable(rt: &impl Print, tablebase: &[u16]) -> io::Result<()> {
+    both(rt, 3, 1, 24, 222222222111, 9, tablebase)?;
+    both(rt, 3, 1, 24, 222222222111, 2, tablebase)?;
+    both(rt, 3, 2, 24, 222222222111, 9, tablebase)?;
+    both(rt, 3, 1, 24, 111111111222, 9, tablebase)?;
+    both(rt, 3, 2, 24, 111111111222, 2, tablebase)?;
+    both(rt, 3, 1, 24, 2222222221111111111, 9, tablebase)?;
+    both(rt, 3, 3, 24, 222222222111, 9, tablebase)?;
+    both(rt, 3, 1, 23, 222222222111, 9, tablebase)?;
+    both(rt, 3, 1, 24, 2222222221011, 9, tablebase)?;
+    both(rt, 3, 1, 24, 22222222111, 9, tablebase)?;
+    both(rt, 2, 1, 16, 222222222111, 9, tablebase)
 }
 
 fn entry_of(answer: Looked) -> u64 {
@@ -181,96 +206,108 @@ fn digits(
 }
 
 // The entries and best moves of a table's boards, as the digits of a number modulo a prime.
-fn answers(word: &[u8], edition: u8, mover: u8, opponent: u8, size: u64, tablebase: &[u16]) {
-    text(word);
+fn answers(
+    rt: &impl Print,
+    word: &[u8],
+    edition: u8,
+    mover: u8,
+    opponent: u8,
+    size: u64,
+    tablebase: &[u16],
+) -> io::Result<()> {
+    text(rt, word)?;
     print(
+        rt,
         b" 1 % % %: digits",
         &[edition as u64, mover as u64, opponent as u64],
-    );
-    number(digits(edition, mover, opponent, size, &mut [0; 8], tablebase));
-    end();
+    )?;
+    number(
+        rt,
+        digits(edition, mover, opponent, size, &mut [0; 8], tablebase),
+    )?;
+    end(rt)
 }
 
 // Every table of the tablebase.
-fn tables(word: &[u8], edition: u8, tablebase: &[u16]) {
-    answers(word, edition, 3, 3, 560, tablebase);
-    answers(word, edition, 3, 4, 280, tablebase);
-    answers(word, edition, 3, 5, 56, tablebase);
-    answers(word, edition, 4, 3, 280, tablebase);
-    answers(word, edition, 4, 4, 70, tablebase);
-    answers(word, edition, 5, 3, 56, tablebase);
+fn tables(rt: &impl Print, word: &[u8], edition: u8, tablebase: &[u16]) -> io::Result<()> {
+    answers(rt, word, edition, 3, 3, 560, tablebase)?;
+    answers(rt, word, edition, 3, 4, 280, tablebase)?;
+    answers(rt, word, edition, 3, 5, 56, tablebase)?;
+    answers(rt, word, edition, 4, 3, 280, tablebase)?;
+    answers(rt, word, edition, 4, 4, 70, tablebase)?;
+    answers(rt, word, edition, 5, 3, 56, tablebase)
 }
 
 // One void, where document 01's first board stands: its entry and its predecessors' best moves are refused, its own best move is not.
-fn void_entry() {
+fn void_entry(rt: &impl Print) -> io::Result<()> {
     let mut entries = [7u16; 1302];
     entries[117] = VOID_ENTRY;
     let tablebase = &entries[..];
-    lookup(1, 1, 8, 02122011, 5, tablebase);
-    lookup(1, 1, 8, 11120202, 5, tablebase);
-    lookup(1, 1, 8, 02122011, 3, tablebase);
-    lookup(1, 0, 8, 02122011, 5, tablebase);
-    best_move(1, 1, 8, 02122011, 5, tablebase);
-    best_move(1, 1, 8, 10211022, 5, tablebase);
-    best_move(1, 1, 8, 10211022, 4, tablebase);
-    best_move(1, 3, 8, 10211022, 5, tablebase);
-    best_move(1, 1, 8, 11120202, 5, tablebase);
-    answers(b"answers beside a void", 1, 3, 3, 560, tablebase);
+    lookup(rt, 1, 1, 8, 02122011, 5, tablebase)?;
+    lookup(rt, 1, 1, 8, 11120202, 5, tablebase)?;
+    lookup(rt, 1, 1, 8, 02122011, 3, tablebase)?;
+    lookup(rt, 1, 0, 8, 02122011, 5, tablebase)?;
+    best_move(rt, 1, 1, 8, 02122011, 5, tablebase)?;
+    best_move(rt, 1, 1, 8, 10211022, 5, tablebase)?;
+    best_move(rt, 1, 1, 8, 10211022, 4, tablebase)?;
+    best_move(rt, 1, 3, 8, 10211022, 5, tablebase)?;
+    best_move(rt, 1, 1, 8, 11120202, 5, tablebase)?;
+    answers(rt, b"answers beside a void", 1, 3, 3, 560, tablebase)
 }
 
 // One void, where a closed mill without a removal leads: a successor under edition 2 alone.
-fn void_after_no_removal() {
+fn void_after_no_removal(rt: &impl Print) -> io::Result<()> {
     let mut entries = [7u16; 1302];
     entries[136] = VOID_ENTRY;
     let tablebase = &entries[..];
-    best_move(1, 1, 8, 01011222, 5, tablebase);
-    best_move(1, 2, 8, 01011222, 5, tablebase);
+    best_move(rt, 1, 1, 8, 01011222, 5, tablebase)?;
+    best_move(rt, 1, 2, 8, 01011222, 5, tablebase)
 }
 
 // In a tablebase filled under edition 2: document 01's first board, two boards whose entries are others under edition 1, a blocked mover. An entry means
 // the outcome under the edition of the fill, under whichever it is looked up.
-fn edition_2(tablebase: &[u16]) {
-    lookup(1, 2, 8, 02122011, 5, tablebase);
-    lookup(1, 2, 8, 01011222, 5, tablebase);
-    lookup(1, 2, 8, 10111222, 5, tablebase);
-    lookup(1, 2, 8, 11112222, 5, tablebase);
-    best_move(1, 2, 8, 02122011, 5, tablebase);
-    best_move(1, 2, 8, 01011222, 5, tablebase);
-    best_move(1, 2, 8, 10111222, 5, tablebase);
-    best_move(1, 2, 8, 11112222, 5, tablebase);
-    text(b"filled under 2 ");
-    lookup(1, 1, 8, 01011222, 5, tablebase);
-    tables(b"answers", 2, tablebase);
+fn edition_2(rt: &impl Print, tablebase: &[u16]) -> io::Result<()> {
+    lookup(rt, 1, 2, 8, 02122011, 5, tablebase)?;
+    lookup(rt, 1, 2, 8, 01011222, 5, tablebase)?;
+    lookup(rt, 1, 2, 8, 10111222, 5, tablebase)?;
+    lookup(rt, 1, 2, 8, 11112222, 5, tablebase)?;
+    best_move(rt, 1, 2, 8, 02122011, 5, tablebase)?;
+    best_move(rt, 1, 2, 8, 01011222, 5, tablebase)?;
+    best_move(rt, 1, 2, 8, 10111222, 5, tablebase)?;
+    best_move(rt, 1, 2, 8, 11112222, 5, tablebase)?;
+    text(rt, b"filled under 2 ")?;
+    lookup(rt, 1, 1, 8, 01011222, 5, tablebase)?;
+    tables(rt, b"answers", 2, tablebase)
 }
 
-fn filled_under_1() {
+fn filled_under_1(rt: &impl Print) -> io::Result<()> {
     let mut tablebase = [0u16; 1302];
     morris::fill(1, 1, 5, 2000, &mut tablebase);
-    lookups(&tablebase);
-    lookups_by_edition(&tablebase);
-    best_moves(&tablebase);
-    best_moves_by_edition(&tablebase);
-    unreachable(&tablebase);
-    tables(b"answers", 1, &tablebase);
+    lookups(rt, &tablebase)?;
+    lookups_by_edition(rt, &tablebase)?;
+    best_moves(rt, &tablebase)?;
+    best_moves_by_edition(rt, &tablebase)?;
+    unreachable(rt, &tablebase)?;
+    tables(rt, b"answers", 1, &tablebase)
 }
 
-fn filled_under_2() {
+fn filled_under_2(rt: &impl Print) -> io::Result<()> {
     let mut tablebase = [0u16; 1302];
     morris::fill(1, 2, 5, 2000, &mut tablebase);
-    edition_2(&tablebase);
+    edition_2(rt, &tablebase)
 }
 
-fn over_made_up() {
+fn over_made_up(rt: &impl Print) -> io::Result<()> {
     let mut tablebase = [0u16; 1302];
     make_up(&mut tablebase, 40);
-    tables(b"made-up answers", 1, &tablebase);
-    tables(b"made-up answers", 2, &tablebase);
+    tables(rt, b"made-up answers", 1, &tablebase)?;
+    tables(rt, b"made-up answers", 2, &tablebase)
 }
 
-pub fn run() {
-    filled_under_1();
-    filled_under_2();
-    void_entry();
-    void_after_no_removal();
-    over_made_up();
+pub fn run(rt: &impl Print) -> io::Result<()> {
+    filled_under_1(rt)?;
+    filled_under_2(rt)?;
+    void_entry(rt)?;
+    void_after_no_removal(rt)?;
+    over_made_up(rt)
 }

@@ -1,5 +1,6 @@
 // Sums over the entries of a tablebase.
 use notation::{add, print, wider, with_digit};
+use std::io;
 
 pub const DRAW_ENTRY: u16 = 65535;
 
@@ -50,9 +51,10 @@ fn sums_of(tablebase: &[u16]) -> Sums {
     sums
 }
 
-pub fn contents(tablebase: &[u16]) {
+pub fn contents(rt: &impl Print, tablebase: &[u16]) -> io::Result<()> {
     let sums = sums_of(tablebase);
     print(
+        rt,
         b"; won % lost % drawn % void % depths % digits %\n",
         &[
             sums.won,
@@ -62,5 +64,5 @@ pub fn contents(tablebase: &[u16]) {
             sums.depths,
             sums.digits,
         ],
-    );
+    )
 }

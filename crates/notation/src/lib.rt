@@ -3,58 +3,60 @@
 
 ghost use Rattle.std.specs.Prelude.{◌≤◌};
 
-use libc::STDOUT_FILENO;
+use std::io;
 
-pub fn text(s: &[u8]) {
-    io::write_all(STDOUT_FILENO, s);
+pub fn text(rt: &impl Print, s: &[u8]) -> io::Result<()> {
+    rt.write_all(s)
 }
 
-pub fn space() {
-    text(b" ");
+pub fn space(rt: &impl Print) -> io::Result<()> {
+    text(rt, b" ")
 }
 
-pub fn colon() {
-    text(b":");
+pub fn colon(rt: &impl Print) -> io::Result<()> {
+    text(rt, b":")
 }
 
-pub fn end() {
-    text(b"\n");
+pub fn end(rt: &impl Print) -> io::Result<()> {
+    text(rt, b"\n")
 }
 
-pub fn number(n: u64) {
-    space();
-    io::print_decimal(STDOUT_FILENO, n);
+pub fn number(rt: &impl Print, n: u64) -> io::Result<()> {
+    space(rt)?;
+    rt.print(n)
 }
 
 // A byte of a text: the next of the numbers for `%`, any other as it is. How many of the numbers are then written.
-fn byte(b: u8, numbers: &[u64], written: usize) -> usize {
+fn byte(rt: &impl Print, b: u8, numbers: &[u64], written: usize) -> io::Result<usize> {
     if b != b'%' {
-        text(&[b]);
-        return written;
+        text(rt, &[b])?;
+        return Ok(written);
     }
     if written < numbers.len() {
-        io::print_decimal(STDOUT_FILENO, numbers[written]);
+        rt.print(numbers[written])?;
     }
-    std::num::wrapping_add_usize(written, 1)
+    Ok(std::num::wrapping_add_usize(written, 1))
 }
 
 // A text with numbers, one for each `%` in it.
-pub fn print(s: &[u8], numbers: &[u64]) {
+pub fn print(rt: &impl Print, s: &[u8], numbers: &[u64]) -> io::Result<()> {
     let mut written = 0;
     let mut i = 0;
     while i < s.len() {
-        written = byte(s[i], numbers, written);
+        written = byte(rt, s[i], numbers, written)?;
         i += 1;
     }
+    Ok(())
 }
 
 // A board, from its last byte to its first.
-pub fn points(board: &[u8]) {
+pub fn points(rt: &impl Print, board: &[u8]) -> io::Result<()> {
     let mut i = board.len();
     while 0 < i {
         i -= 1;
-        io::print_decimal(STDOUT_FILENO, wide(board[i]));
+        rt.print(wide(board[i]))?;
     }
+    Ok(())
 }
 
 fn wide(x: u8) -> u64 {
@@ -62,12 +64,13 @@ fn wide(x: u8) -> u64 {
 }
 
 // The numbers of a list.
-pub fn numbers(list: &[u16]) {
+pub fn numbers(rt: &impl Print, list: &[u16]) -> io::Result<()> {
     let mut i = 0;
     while i < list.len() {
-        number(wider(list[i]));
+        number(rt, wider(list[i]))?;
         i += 1;
     }
+    Ok(())
 }
 
 pub fn wider(x: u16) -> u64 {
@@ -84,34 +87,40 @@ pub fn with_digit(digits: u64, digit: u64) -> u64 {
     add(digits % 1000003 * 65537, digit) % 1000003
 }
 
-pub fn refused(n: u8) {
-    text(b" refused");
-    number(n as u64);
+pub fn refused(rt: &impl Print, n: u8) -> io::Result<()> {
+    text(rt, b" refused")?;
+    number(rt, n as u64)
 }
 
 // A word, rings and a board.
-pub fn about(word: &[u8], rings: u8, board: &[u8]) {
-    text(word);
-    number(rings as u64);
-    space();
-    points(board);
+pub fn about(rt: &impl Print, word: &[u8], rings: u8, board: &[u8]) -> io::Result<()> {
+    text(rt, word)?;
+    number(rt, rings as u64)?;
+    space(rt)?;
+    points(rt, board)
 }
 
 // A word, rings, an edition and a board.
-pub fn about_under(word: &[u8], rings: u8, edition: u8, board: &[u8]) {
-    text(word);
-    number(rings as u64);
-    number(edition as u64);
-    space();
-    points(board);
+pub fn about_under(
+    rt: &impl Print,
+    word: &[u8],
+    rings: u8,
+    edition: u8,
+    board: &[u8],
+) -> io::Result<()> {
+    text(rt, word)?;
+    number(rt, rings as u64)?;
+    number(rt, edition as u64)?;
+    space(rt)?;
+    points(rt, board)
 }
 
 // A word and three numbers.
-pub fn table(word: &[u8], rings: u8, mover: u8, opponent: u8) {
-    text(word);
-    number(rings as u64);
-    number(mover as u64);
-    number(opponent as u64);
+pub fn table(rt: &impl Print, word: &[u8], rings: u8, mover: u8, opponent: u8) -> io::Result<()> {
+    text(rt, word)?;
+    number(rt, rings as u64)?;
+    number(rt, mover as u64)?;
+    number(rt, opponent as u64)
 }
 
 // The board that a number's digits write, the last of them point 0.

@@ -5,121 +5,157 @@ use notation::{
     about_under, add, board_of, colon, end, least, number, numbers, points, print, refused, space,
     text, wider, with_digit,
 };
+use std::io;
 
-fn list_over(rings: u8, edition: u8, board: &[u8], list: &mut [u16]) {
-    about_under(b"moves", rings, edition, board);
-    colon();
+fn list_over(
+    rt: &impl Print,
+    rings: u8,
+    edition: u8,
+    board: &[u8],
+    list: &mut [u16],
+) -> io::Result<()> {
+    about_under(rt, b"moves", rings, edition, board)?;
+    colon(rt)?;
     match move_calls::moves(rings, edition, board, list) {
-        Listed::Count(n) => number(n as u64),
-        Listed::Refused(n) => refused(n),
+        Listed::Count(n) => number(rt, n as u64)?,
+        Listed::Refused(n) => refused(rt, n)?,
     }
-    text(b" in");
-    numbers(list);
-    end();
+    text(rt, b" in")?;
+    numbers(rt, list)?;
+    end(rt)
 }
 
 // The moves of a board of so many points, and what a list of sevens then holds.
-fn moves(rings: u8, edition: u8, length: usize, digits: u64, room: usize) {
+fn moves(
+    rt: &impl Print,
+    rings: u8,
+    edition: u8,
+    length: usize,
+    digits: u64,
+    room: usize,
+) -> io::Result<()> {
     let board = board_of(digits);
     let n = least(length, 24);
     let mut list = [7u16; 12];
     let m = least(room, 12);
-    list_over(rings, edition, &board[0..n], &mut list[0..m]);
+    list_over(rt, rings, edition, &board[0..n], &mut list[0..m])
 }
 
-fn make_over(rings: u8, edition: u8, board: &[u8], move_number: u16, target: &mut [u8]) {
-    about_under(b"make move", rings, edition, board);
-    number(move_number as u64);
-    colon();
+fn make_over(
+    rt: &impl Print,
+    rings: u8,
+    edition: u8,
+    board: &[u8],
+    move_number: u16,
+    target: &mut [u8],
+) -> io::Result<()> {
+    about_under(rt, b"make move", rings, edition, board)?;
+    number(rt, move_number as u64)?;
+    colon(rt)?;
     match move_calls::make_move(rings, edition, board, move_number, target) {
-        Made::Written => text(b" written"),
-        Made::Refused(n) => refused(n),
+        Made::Written => text(rt, b" written")?,
+        Made::Refused(n) => refused(rt, n)?,
     }
-    space();
-    points(target);
-    end();
+    space(rt)?;
+    points(rt, target)?;
+    end(rt)
 }
 
 // The board after a move, and what a target of sevens then holds.
-fn make_move(rings: u8, edition: u8, length: usize, digits: u64, move_number: u16, room: usize) {
+fn make_move(
+    rt: &impl Print,
+    rings: u8,
+    edition: u8,
+    length: usize,
+    digits: u64,
+    move_number: u16,
+    room: usize,
+) -> io::Result<()> {
     let board = board_of(digits);
     let n = least(length, 24);
     let mut target = [7u8; 24];
     let m = least(room, 24);
-    make_over(rings, edition, &board[0..n], move_number, &mut target[0..m]);
+    make_over(
+        rt,
+        rings,
+        edition,
+        &board[0..n],
+        move_number,
+        &mut target[0..m],
+    )
 }
 
 // Worked boards: document 01's own, a shield, no shield, the vacated point, four stones on one ring, two rings, three rings. Then each
 // refusal of a list but 20, and a blocked mover with no list at all; and a board that no game reaches.
-fn lists() {
-    moves(1, 1, 8, 02122011, 10);
-    moves(1, 1, 8, 21011222, 4);
-    moves(1, 1, 8, 01011222, 8);
-    moves(1, 1, 8, 22201011, 9);
-    moves(1, 1, 8, 20211211, 2);
-    moves(2, 1, 16, 0001001002220101, 12);
-    list_over(3, 1, &three_rings(), &mut [7; 9]);
-    moves(0, 1, 8, 02122011, 2);
-    moves(1, 1, 7, 2122011, 2);
-    moves(1, 1, 8, 02122311, 2);
-    moves(1, 1, 8, 02022011, 2);
-    moves(1, 1, 8, 02122011, 7);
-    moves(1, 1, 8, 02122011, 8);
-    moves(1, 1, 8, 22221111, 0);
-    list_over(3, 1, &board_of(222222222111), &mut [7; 37]);
+fn lists(rt: &impl Print) -> io::Result<()> {
+    moves(rt, 1, 1, 8, 02122011, 10)?;
+    moves(rt, 1, 1, 8, 21011222, 4)?;
+    moves(rt, 1, 1, 8, 01011222, 8)?;
+    moves(rt, 1, 1, 8, 22201011, 9)?;
+    moves(rt, 1, 1, 8, 20211211, 2)?;
+    moves(rt, 2, 1, 16, 0001001002220101, 12)?;
+    list_over(rt, 3, 1, &three_rings(), &mut [7; 9])?;
+    moves(rt, 0, 1, 8, 02122011, 2)?;
+    moves(rt, 1, 1, 7, 2122011, 2)?;
+    moves(rt, 1, 1, 8, 02122311, 2)?;
+    moves(rt, 1, 1, 8, 02022011, 2)?;
+    moves(rt, 1, 1, 8, 02122011, 7)?;
+    moves(rt, 1, 1, 8, 02122011, 8)?;
+    moves(rt, 1, 1, 8, 22221111, 0)?;
+    list_over(rt, 3, 1, &board_of(222222222111), &mut [7; 37])
 }
 
 // Edition 2 removes a stone outside any mill as edition 1 does, and none where all stand in one mill, or in two. Then 20, after 1 and before each other
 // refusal.
-fn lists_by_edition() {
-    moves(1, 2, 8, 21011222, 4);
-    moves(1, 2, 8, 01011222, 8);
-    moves(2, 1, 16, 0001101100022222, 12);
-    moves(2, 2, 16, 0001101100022222, 5);
-    moves(1, 0, 8, 02122011, 10);
-    moves(1, 3, 8, 02122011, 10);
-    moves(1, 255, 8, 02122011, 10);
-    moves(4, 3, 8, 02122011, 2);
-    moves(1, 0, 7, 2122011, 2);
-    moves(1, 3, 8, 02122311, 2);
-    moves(1, 0, 8, 02022011, 2);
-    moves(1, 3, 8, 02122011, 7);
+fn lists_by_edition(rt: &impl Print) -> io::Result<()> {
+    moves(rt, 1, 2, 8, 21011222, 4)?;
+    moves(rt, 1, 2, 8, 01011222, 8)?;
+    moves(rt, 2, 1, 16, 0001101100022222, 12)?;
+    moves(rt, 2, 2, 16, 0001101100022222, 5)?;
+    moves(rt, 1, 0, 8, 02122011, 10)?;
+    moves(rt, 1, 3, 8, 02122011, 10)?;
+    moves(rt, 1, 255, 8, 02122011, 10)?;
+    moves(rt, 4, 3, 8, 02122011, 2)?;
+    moves(rt, 1, 0, 7, 2122011, 2)?;
+    moves(rt, 1, 3, 8, 02122311, 2)?;
+    moves(rt, 1, 0, 8, 02022011, 2)?;
+    moves(rt, 1, 3, 8, 02122011, 7)
 }
 
 // Moves made, with a removal and without, and each refusal but 20; two stones may be left. And one of a board that no game reaches.
-fn plies() {
-    make_move(1, 1, 8, 02122011, 5187, 8);
-    make_move(1, 1, 8, 02122011, 5188, 8);
-    make_move(1, 1, 8, 02122011, 95, 8);
-    make_move(1, 1, 8, 02122011, 96, 8);
-    make_move(1, 1, 8, 02122011, 5215, 8);
-    make_move(1, 1, 8, 02122011, 65535, 8);
-    make_move(1, 1, 8, 02122011, 96, 9);
-    make_move(1, 1, 8, 02022011, 95, 9);
-    make_move(1, 1, 8, 02132011, 95, 8);
-    make_move(1, 1, 7, 2122011, 95, 7);
-    make_move(4, 1, 8, 02122011, 95, 8);
-    make_over(3, 1, &three_rings(), 18996, &mut [7; 24]);
-    make_over(3, 1, &board_of(222222222111), 415, &mut [7; 24]);
+fn plies(rt: &impl Print) -> io::Result<()> {
+    make_move(rt, 1, 1, 8, 02122011, 5187, 8)?;
+    make_move(rt, 1, 1, 8, 02122011, 5188, 8)?;
+    make_move(rt, 1, 1, 8, 02122011, 95, 8)?;
+    make_move(rt, 1, 1, 8, 02122011, 96, 8)?;
+    make_move(rt, 1, 1, 8, 02122011, 5215, 8)?;
+    make_move(rt, 1, 1, 8, 02122011, 65535, 8)?;
+    make_move(rt, 1, 1, 8, 02122011, 96, 9)?;
+    make_move(rt, 1, 1, 8, 02022011, 95, 9)?;
+    make_move(rt, 1, 1, 8, 02132011, 95, 8)?;
+    make_move(rt, 1, 1, 7, 2122011, 95, 7)?;
+    make_move(rt, 4, 1, 8, 02122011, 95, 8)?;
+    make_over(rt, 3, 1, &three_rings(), 18996, &mut [7; 24])?;
+    make_over(rt, 3, 1, &board_of(222222222111), 415, &mut [7; 24])
 }
 
 // A closed mill in both editions: with a removal and without where a stone stands outside any mill, then where all stand in mills. Then 20, after 1 and
 // before each other refusal.
-fn plies_by_edition() {
-    make_move(1, 2, 8, 02122011, 5187, 8);
-    make_move(1, 2, 8, 02122011, 5215, 8);
-    make_move(1, 1, 8, 01011222, 3232, 8);
-    make_move(1, 1, 8, 01011222, 3263, 8);
-    make_move(1, 2, 8, 01011222, 3232, 8);
-    make_move(1, 2, 8, 01011222, 3263, 8);
-    make_move(1, 0, 8, 02122011, 95, 8);
-    make_move(1, 3, 8, 02122011, 95, 8);
-    make_move(4, 3, 8, 02122011, 95, 8);
-    make_move(1, 0, 7, 2122011, 95, 7);
-    make_move(1, 3, 8, 02132011, 95, 8);
-    make_move(1, 0, 8, 02022011, 95, 8);
-    make_move(1, 3, 8, 02122011, 95, 9);
-    make_move(1, 0, 8, 02122011, 96, 8);
+fn plies_by_edition(rt: &impl Print) -> io::Result<()> {
+    make_move(rt, 1, 2, 8, 02122011, 5187, 8)?;
+    make_move(rt, 1, 2, 8, 02122011, 5215, 8)?;
+    make_move(rt, 1, 1, 8, 01011222, 3232, 8)?;
+    make_move(rt, 1, 1, 8, 01011222, 3263, 8)?;
+    make_move(rt, 1, 2, 8, 01011222, 3232, 8)?;
+    make_move(rt, 1, 2, 8, 01011222, 3263, 8)?;
+    make_move(rt, 1, 0, 8, 02122011, 95, 8)?;
+    make_move(rt, 1, 3, 8, 02122011, 95, 8)?;
+    make_move(rt, 4, 3, 8, 02122011, 95, 8)?;
+    make_move(rt, 1, 0, 7, 2122011, 95, 7)?;
+    make_move(rt, 1, 3, 8, 02132011, 95, 8)?;
+    make_move(rt, 1, 0, 8, 02022011, 95, 8)?;
+    make_move(rt, 1, 3, 8, 02122011, 95, 9)?;
+    make_move(rt, 1, 0, 8, 02122011, 96, 8)
 }
 
 // The rank of the board after a move, 1000 where its mover has two stones.
@@ -205,48 +241,60 @@ fn table_digits(
     digits
 }
 
-fn lists_of(rings: u8, edition: u8, mover: u8, opponent: u8, n: u64, step: u64) {
+fn lists_of(
+    rt: &impl Print,
+    rings: u8,
+    edition: u8,
+    mover: u8,
+    opponent: u8,
+    n: u64,
+    step: u64,
+) -> io::Result<()> {
     print(
+        rt,
         b"lists of moves % % % %: digits",
         &[rings as u64, edition as u64, mover as u64, opponent as u64],
-    );
+    )?;
     let mut board = [0u8; 24];
     let mut target = [0u8; 24];
     let p = least(8 * rings as usize, 24);
-    number(table_digits(
-        rings,
-        edition,
-        mover,
-        opponent,
-        n,
-        step,
-        &mut board[0..p],
-        &mut target[0..p],
-    ));
-    end();
+    number(
+        rt,
+        table_digits(
+            rings,
+            edition,
+            mover,
+            opponent,
+            n,
+            step,
+            &mut board[0..p],
+            &mut target[0..p],
+        ),
+    )?;
+    end(rt)
 }
 
 // All lists of one ring, and those of tables of two and three rings from end to end; under edition 2 those with three or five opposing stones, since
 // four never all stand in mills.
-pub fn run() {
-    lists();
-    lists_by_edition();
-    plies();
-    plies_by_edition();
-    lists_of(1, 1, 3, 3, 560, 1);
-    lists_of(1, 1, 3, 4, 280, 1);
-    lists_of(1, 1, 3, 5, 56, 1);
-    lists_of(1, 1, 4, 3, 280, 1);
-    lists_of(1, 1, 4, 4, 70, 1);
-    lists_of(1, 1, 5, 3, 56, 1);
-    lists_of(2, 1, 3, 4, 20000, 20);
-    lists_of(2, 1, 5, 4, 20000, 72);
-    lists_of(3, 1, 3, 9, 20000, 29745);
-    lists_of(3, 1, 4, 3, 20000, 605);
-    lists_of(3, 1, 9, 9, 20000, 327202);
-    lists_of(1, 2, 3, 3, 560, 1);
-    lists_of(1, 2, 4, 3, 280, 1);
-    lists_of(2, 2, 3, 3, 20000, 8);
-    lists_of(2, 2, 4, 5, 20000, 72);
-    lists_of(3, 2, 4, 3, 20000, 605);
+pub fn run(rt: &impl Print) -> io::Result<()> {
+    lists(rt)?;
+    lists_by_edition(rt)?;
+    plies(rt)?;
+    plies_by_edition(rt)?;
+    lists_of(rt, 1, 1, 3, 3, 560, 1)?;
+    lists_of(rt, 1, 1, 3, 4, 280, 1)?;
+    lists_of(rt, 1, 1, 3, 5, 56, 1)?;
+    lists_of(rt, 1, 1, 4, 3, 280, 1)?;
+    lists_of(rt, 1, 1, 4, 4, 70, 1)?;
+    lists_of(rt, 1, 1, 5, 3, 56, 1)?;
+    lists_of(rt, 2, 1, 3, 4, 20000, 20)?;
+    lists_of(rt, 2, 1, 5, 4, 20000, 72)?;
+    lists_of(rt, 3, 1, 3, 9, 20000, 29745)?;
+    lists_of(rt, 3, 1, 4, 3, 20000, 605)?;
+    lists_of(rt, 3, 1, 9, 9, 20000, 327202)?;
+    lists_of(rt, 1, 2, 3, 3, 560, 1)?;
+    lists_of(rt, 1, 2, 4, 3, 280, 1)?;
+    lists_of(rt, 2, 2, 3, 3, 20000, 8)?;
+    lists_of(rt, 2, 2, 4, 5, 20000, 72)?;
+    lists_of(rt, 3, 2, 4, 3, 20000, 605)
 }

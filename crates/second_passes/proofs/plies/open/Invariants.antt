@@ -1,0 +1,12 @@
+-- `second_passes::plies::open` is safe and ends. Assumes nothing.
+use Rattle.std.proofs.Common.{◌≡◌, ◌-◌, ◌≤◌, length}
+use Rattle.second_passes.proofs.plies.open.Given as goal
+
+abbrev pub invariant-loop-place : goal.invariant-loop-place
+invariant-loop-place l =
+    (l.place ≤ length l.initial.entries)
+    × (length l.entries ≡ length l.initial.entries)
+    × (length l.counts ≡ length l.initial.counts)
+
+abbrev pub decreases-loop-place : goal.decreases-loop-place
+decreases-loop-place l = length l.initial.entries - l.place
