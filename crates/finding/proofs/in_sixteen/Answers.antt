@@ -1,0 +1,9 @@
+-- `finding::in_sixteen` meets its contract. Assumes nothing.
+use Rattle.std.proofs.Common.{Bool, ◌||◌, ◌∙◌, ap₂, rules}
+use Rattle.finding.proofs.Occurs.{occurs_split}
+use Rattle.finding.proofs.in_sixteen.Goals as goal
+
+pub returns : goal.returns
+returns c =
+    let a = c.args in
+    ap₂ (λ (x y : Bool). x || y) c.in_eight.ensures c.in_eight-2.ensures ∙ occurs_split a.v a.tablebase.now a.i 8 8

@@ -1,0 +1,12 @@
+-- `finding::pass` meets its contract. The invariant: the value does not occur in what is passed. Assumes nothing.
+use Rattle.std.proofs.Common.{◌-◌, sym, ◌∙◌, arith}
+use Rattle.finding.specs.Inner.Finding.{NoneBefore, is_at}
+use Rattle.finding.proofs.Occurs.{occurs_none}
+use Rattle.finding.proofs.Firsts.{passed_none, passed_more}
+use Rattle.finding.proofs.pass.Given as goal
+
+abbrev pub invariant-loop-i : goal.invariant-loop-i
+invariant-loop-i l = NoneBefore (is_at l.v l.tablebase) l.from l.end l.i
+
+abbrev pub decreases-loop-i : goal.decreases-loop-i
+decreases-loop-i l = l.end - l.i

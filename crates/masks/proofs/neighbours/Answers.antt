@@ -1,0 +1,6 @@
+-- `masks::neighbours` meets its contract: the rule of the masks. Assumes nothing.
+use borrow.Author.Rules.{rules}
+use Rattle.masks.proofs.neighbours.Goals as goal
+
+pub returns : goal.returns
+returns c = c.requires.0.neighbours c.args.p c.requires.1
