@@ -1,0 +1,6 @@
+-- `board_refusals::edition_wrong` meets its contract. Assumes nothing.
+use mathlib.Core.Path.{refl}
+use Rattle.board_refusals.proofs.edition_wrong.Goals as goal
+
+pub returns : goal.returns
+returns c = refl
