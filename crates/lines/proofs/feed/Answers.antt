@@ -9,7 +9,7 @@ use Rattle.lines.proofs.feed.Goals as goal
 
 pub loop-i-init : goal.loop-i-init
 loop-i-init c =
-    (omega arith, c.requires.held_len.0, c.requires.held_len.1, feeding_none c.args.tablebase.now c.args.block.now _ c.args.out.now)
+    (omega arith, c.requires.held_len.0, omega arith, feeding_none c.args.tablebase.now c.args.block.now _ c.args.out.now)
 
 pub step-fed-requires : goal.step-fed-requires
 step-fed-requires c =
