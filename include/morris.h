@@ -1,6 +1,6 @@
 /* Endgame tablebases of Nine Men's Morris: the calls for C.
  *
- * Link with libmorris_c.a, which `rt staticlib morris_c` writes. Every call answers on every value of its arguments: it returns 0 and its result,
+ * Link with libmorris_c.a, which `rt lib` in crates/morris_c writes. Every call answers on every value of its arguments: it returns 0 and its result,
  * or the number of the first refusal that the arguments meet, and then every value behind a pointer is 0 and every lent buffer is as it was
  * (after 13 the entries to be filled are void).
  *

@@ -125,7 +125,7 @@ module _ (rings edition k limit : ℕ) (before after : List ℕ) (p : FillCall r
   -- what an accepted fill leaves passes,
   pub fill_passes : check_call rings edition k after ≡ passed
   fill_passes =
-      let (z, f) = promised.accepted-fill (fill_picks rings edition k limit (length before)) (promised.fill-last rings edition k limit (length before)) _
+      let (z, f) = promised.accepted_fill (fill_picks rings edition k limit (length before)) (promised.fill_last rings edition k limit (length before)) _
       before after p in
       true_passes rings edition k after
       (subst (λ (n : ℕ). refusal (check_picks rings edition k n) ≡ 0) (sym f.kept.same_length) (fill_check rings edition k limit (length before) z))

@@ -56,8 +56,8 @@ module _ (rings edition k limit : ℕ) (before after : List ℕ) where
       → AcceptedFill rings edition k limit (length before)
       × Filled (removable edition) rings k limit (AllTables rings k) (λ b. whole_seed b) before after
   fill_accepted p =
-      let f = promised.accepted-fill (fill_picks rings edition k limit (length before))
-      (promised.fill-last rings edition k limit (length before)) _ before after p in
+      let f = promised.accepted_fill (fill_picks rings edition k limit (length before))
+      (promised.fill_last rings edition k limit (length before)) _ before after p in
       (accepted_fill rings edition k limit (length before) f.0, f.1)
 
   module _ (p : FillCall rings edition k limit before after (accepted [])) (m o r : ℕ)
@@ -93,14 +93,14 @@ module _ (rings edition k limit : ℕ) (before after : List ℕ) where
   pub fill_too_deep : FillCall rings edition k limit before after (refused 13)
       → (refusal (fill_picks rings edition k limit (length before)) ≡ 0)
       × TooDeep (removable edition) rings k limit (AllTables rings k) (λ b. whole_seed b) before after
-  fill_too_deep p = promised.deep-fill (fill_picks rings edition k limit (length before))
-      (promised.fill-last rings edition k limit (length before)) _ before after p
+  fill_too_deep p = promised.deep_fill (fill_picks rings edition k limit (length before))
+      (promised.fill_last rings edition k limit (length before)) _ before after p
 
   -- and where they hold and some position has, 13 is answered
   pub too_deep_fill : (a : Answer) → FillCall rings edition k limit before after a → refusal (fill_picks rings edition k limit (length before)) ≡ 0
       → Beyond (removable edition) rings k limit → a ≡ refused 13
   too_deep_fill a p e d = deep_answer (removable edition) rings k limit (AllTables rings k) (λ b. whole_seed b) before after a
-      (promised.either_way (fill_picks rings edition k limit (length before)) (promised.fill-last rings edition k limit (length before)) _
+      (promised.either_way (fill_picks rings edition k limit (length before)) (promised.fill_last rings edition k limit (length before)) _
       before after a e p)
       d.mover d.opponent d.rank d.in_table d.rank_low d.plies d.forced d.beyond
 
@@ -129,8 +129,8 @@ entries_outcomes rings rings' edition edition' k k' limit limit' a b a' b' p q m
 pub pair_accepted : (rings edition m o k limit : ℕ) (before after : List ℕ) → FillPairCall rings edition m o k limit before after (accepted [])
     → Pair rings k m o × Filled (removable edition) rings k limit (BothTables m o) (λ b. pair_seed rings k m o before b) before after
 pair_accepted rings edition m o k limit before after p =
-    let f = promised.accepted-fill (pair_picks rings edition m o k limit before)
-    (promised.pair-last rings edition m o k limit before) _ before after p in
+    let f = promised.accepted_fill (pair_picks rings edition m o k limit before)
+    (promised.pair_last rings edition m o k limit before) _ before after p in
     (pair_met rings edition m o k limit before f.0, f.1)
 
 -- 13 of a pair, both ways
@@ -138,7 +138,7 @@ pub pair_too_deep : (rings edition m o k limit : ℕ) (before after : List ℕ) 
     → (refusal (pair_picks rings edition m o k limit before) ≡ 0) × TooDeep (removable edition) rings k limit (BothTables m o)
     (λ b. pair_seed rings k m o before b) before after
 pair_too_deep rings edition m o k limit before after p =
-    promised.deep-fill (pair_picks rings edition m o k limit before) (promised.pair-last rings edition m o k limit before) _ before after p
+    promised.deep_fill (pair_picks rings edition m o k limit before) (promised.pair_last rings edition m o k limit before) _ before after p
 
 pub too_deep_pair : (rings edition m o k limit : ℕ) (before after : List ℕ) (a : Answer) → FillPairCall rings edition m o k limit before after a
     → refusal (pair_picks rings edition m o k limit before) ≡ 0 → (x y r : ℕ) → BothTables m o x y → r < size (8 * rings) x y → (n : ℕ)
@@ -146,7 +146,7 @@ pub too_deep_pair : (rings edition m o k limit : ℕ) (before after : List ℕ) 
     → ended (successors (removable edition) rings) (λ b. pair_seed rings k m o before b) limit (unrank (8 * rings) x y r) ≡ false → a ≡ refused 13
 too_deep_pair rings edition m o k limit before after a p e =
     deep_answer (removable edition) rings k limit (BothTables m o) (λ b. pair_seed rings k m o before b) before after a
-    (promised.either_way (pair_picks rings edition m o k limit before) (promised.pair-last rings edition m o k limit before) _ before after a e p)
+    (promised.either_way (pair_picks rings edition m o k limit before) (promised.pair_last rings edition m o k limit before) _ before after a e p)
 
 -- pairs filled in order, each by an accepted call, make the tablebase that one fill makes
 pub next_pair : (rings edition k m o limit : ℕ) (before after : List ℕ) → InOrder (removable edition) rings k m o before → o ≤ m

@@ -10,7 +10,7 @@ use Rattle.ranking.specs.Rank.{reading_rank, rank}
 use Rattle.layout.specs.Layout.{tables, tablebase_length}
 use Rattle.rules.specs.Ply.{holding, in_mill, destinations, slide, unshielded, if_all_shielded, removable, removals, moves, remove, exchange, after_ply, successors}
 use Rattle.game.specs.Game.{won_by, lost_by, won, lost, ended, depth_is, void_entry}
-use Rattle.game.proofs.Computed.{entry_is}
+use Rattle.game.proofs.Computed.{entry_is as entry_told}
 use Rattle.outcomes.specs.Whole.{whole_seed, TrueEntry}
 use Rattle.refusals.specs.Conditions.{value_wrong}
 use Rattle.rank_calls.specs.RankCall.{rank_call}
@@ -25,4 +25,4 @@ starred_hold = refl
 pub entry_case : (rings : ℕ) (reading : List ℕ) (e : ℕ) → case_holds (entry_is rings reading e) ≡ true → e < void_entry
     → TrueEntry (removable 1) rings (reverse reading) e
 unfolding case_holds
-entry_case rings reading e h l = entry_is (successors (removable 1) rings) (λ b. whole_seed b) e (reverse reading) h l
+entry_case rings reading e h l = entry_told (successors (removable 1) rings) (λ b. whole_seed b) e (reverse reading) h l
