@@ -1,6 +1,8 @@
 // The program `desk` (document 01, "Frames"). It is run on the sample there, whose last line has no line feed.
 #![tactic(auto)]
 
-fn main() {
-    session::run();
+use std::io;
+
+fn main(rt: HostRuntime) -> io::Result<()> {
+    session::run(&rt)
 }

@@ -1,6 +1,8 @@
 // The session of `desk` once more, on empty input: the header alone.
 #![tactic(auto)]
 
-fn main() {
-    session::run();
+use std::io;
+
+fn main(rt: HostRuntime) -> io::Result<()> {
+    session::run(&rt)
 }

@@ -2,6 +2,8 @@
 // blocks, boards of each number of rings, and every board of the one-ring tablebase. The last line ends with a line feed.
 #![tactic(auto)]
 
-fn main() {
-    session::run();
+use std::io;
+
+fn main(rt: HostRuntime) -> io::Result<()> {
+    session::run(&rt)
 }

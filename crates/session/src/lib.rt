@@ -9,6 +9,7 @@ ghost use Rattle.keeping.specs.Kept.{most_kept};
 ghost use Rattle.fields.specs.Fields.{largest_count, desk_edition};
 
 use morris::Solved;
+use std::io;
 
 // The limit of the fill, in plies.
 const DESK_LIMIT: u32 = 2000;
@@ -27,21 +28,27 @@ fn fill_tablebase(tablebase: &mut [u16]) -> Solved
 }
 
 // The session in lent buffers. Were the fill turned back, every entry would be void, and a line would show `-` for it.
-fn serve(tablebase: &mut [u16], block: &mut [u8], held: &mut [u8], out: &mut [u8])
+fn serve(
+    rt: &HostRuntime,
+    tablebase: &mut [u16],
+    block: &mut [u8],
+    held: &mut [u8],
+    out: &mut [u8],
+) -> io::Result<()>
     requires held_len { length held.old ≡ most_kept }
     requires most_bytes_in_bounds { (most_bytes ≤ length out.old) × (most_bytes * length block.old ≤ length out.old) }
 {
     fill_tablebase(tablebase);
-    stream::write_header(out);
-    stream::answer_input(tablebase, block, held, out);
+    stream::write_header(rt, out)?;
+    stream::answer_input(rt, tablebase, block, held, out)
 }
 
 // The session of the program `desk`. The one-ring tablebase has 1,302 entries. Each of a block's 1,024 bytes may end a line, whose answer takes 126 bytes
-// at most.
-pub fn run() {
+// at most. Where a read or a write fails, its error is the answer.
+pub fn run(rt: &HostRuntime) -> io::Result<()> {
     let mut tablebase = [0u16; 1302];
     let mut block = [0u8; 1024];
     let mut held = [0u8; keeping::MOST_KEPT];
     let mut out = [0u8; 129024];
-    serve(&mut tablebase, &mut block, &mut held, &mut out);
+    serve(rt, &mut tablebase, &mut block, &mut held, &mut out)
 }

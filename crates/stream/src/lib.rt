@@ -1,11 +1,13 @@
-// Standard input read block by block, its lines answered on standard output, in lent buffers.
+// Standard input read block by block, its lines answered on standard output, in lent buffers. Where a read or a write fails, its error is the answer, and
+// the session ends there: no other error comes, and the buffers keep their lengths.
 #![tactic(auto)]
 
-ghost use Rattle.std.specs.Prelude.{◌≡◌, ◌*◌, ◌≤◌, ◌<◌, length};
+ghost use Rattle.std.specs.Prelude.{◌≡◌, ◌*◌, ◌≤◌, ◌<◌, length, IfOk};
 ghost use Rattle.text.specs.Inner.Room.{most_bytes};
 ghost use Rattle.keeping.specs.Kept.{most_kept};
 
-use libc::{STDIN_FILENO, STDOUT_FILENO};
+use std::io;
+use std::io::{Read, Write};
 
 // After a block: how many bytes are kept of a line that is not yet ended, and whether to go on.
 #[derive(Clone, Copy)]
@@ -16,44 +18,51 @@ struct After {
 
 // One block is read, and the lines that it ends are answered.
 fn answer_block(
+    rt: &HostRuntime,
     tablebase: &[u16],
     block: &mut [u8],
     held: &mut [u8],
     kept: usize,
     out: &mut [u8],
-) -> After
+) -> io::Result<After>
     requires held_len { (length held.old ≡ most_kept) × (kept ≤ most_kept) }
     requires block_in_bounds { most_bytes * length block.old ≤ length out.old }
-    ensures kept { result.kept ≤ most_kept }
+    ensures kept { IfOk result (λ after. after.kept ≤ most_kept) }
     ensures block { length block.new ≡ length block.old }
     ensures held { length held.new ≡ length held.old }
     ensures out { length out.new ≡ length out.old }
 {
-    let got = libc::read(STDIN_FILENO, block);
-    if got <= 0 {
-        return After { kept, more: false };
+    let count = rt.stdin().read(block)?;
+    if count == 0 {
+        return Ok(After { kept, more: false });
     }
-    let count = io::count(got, block);
     let fed = lines::feed(tablebase, &block[..count], held, kept, out);
     let left = fed.kept;
     let used = fed.used;
-    After {
+    rt.stdout().write_all(&out[..used])?;
+    Ok(After {
         kept: left,
-        more: io::write_all(STDOUT_FILENO, &out[..used]),
-    }
+        more: true,
+    })
 }
 
 // At the end of the input the last line is answered, where it has no line feed.
-fn answer_last(tablebase: &[u16], held: &[u8], kept: usize, out: &mut [u8])
+fn answer_last(
+    rt: &HostRuntime,
+    tablebase: &[u16],
+    held: &[u8],
+    kept: usize,
+    out: &mut [u8],
+) -> io::Result<()>
     requires held_len { (length held.now ≡ most_kept) × (kept ≤ most_kept) }
     requires most_bytes_in_bounds { most_bytes ≤ length out.old }
     ensures { length out.new ≡ length out.old }
 {
     let used = lines::finish(tablebase, held, kept, out);
-    io::write_all(STDOUT_FILENO, &out[..used]);
+    rt.stdout().write_all(&out[..used])
 }
 
-// How many blocks may still be read: fewer, and none where the input or the output has ended.
+// How many blocks may still be read: fewer, and none where the input has ended.
 fn blocks_left(blocks: u64, more: bool) -> u64
     requires { 0 < blocks }
     ensures { result < blocks }
@@ -62,25 +71,31 @@ fn blocks_left(blocks: u64, more: bool) -> u64
 }
 
 // All of the input. A loop has to end, and nothing says that the input does: the blocks are counted down from the largest number.
-pub fn answer_input(tablebase: &[u16], block: &mut [u8], held: &mut [u8], out: &mut [u8])
+pub fn answer_input(
+    rt: &HostRuntime,
+    tablebase: &[u16],
+    block: &mut [u8],
+    held: &mut [u8],
+    out: &mut [u8],
+) -> io::Result<()>
     requires held_len { length held.old ≡ most_kept }
     requires most_bytes_in_bounds { (most_bytes ≤ length out.old) × (most_bytes * length block.old ≤ length out.old) }
 {
     let mut kept: usize = 0;
     let mut blocks = u64::MAX;
     while 0 < blocks {
-        let after = answer_block(tablebase, block, held, kept, out);
+        let after = answer_block(rt, tablebase, block, held, kept, out)?;
         kept = after.kept;
         blocks = blocks_left(blocks, after.more);
     }
-    answer_last(tablebase, held, kept, out);
+    answer_last(rt, tablebase, held, kept, out)
 }
 
 // The header comes first, even for empty input.
-pub fn write_header(out: &mut [u8])
+pub fn write_header(rt: &HostRuntime, out: &mut [u8]) -> io::Result<()>
     requires { most_bytes ≤ length out.old }
     ensures { length out.new ≡ length out.old }
 {
     let used = text::put_header(out);
-    io::write_all(STDOUT_FILENO, &out[..used]);
+    rt.stdout().write_all(&out[..used])
 }

@@ -1,5 +1,5 @@
 -- Bytes written one after the other: one byte of a loop, one part of a line. Assumes nothing.
-use mathlib.Core.Path.{◌≡◌, sym, ap, ap₂, ◌∙◌}
+use mathlib.Core.Path.{◌≡◌, refl, sym, ap, ap₂, ◌∙◌}
 use mathlib.Core.List.{List, [], ◌∷◌, ◌++◌}
 use Prim.Native.Nat.{ℕ, suc, ◌+◌, ◌<◌}
 use native.Mathlib.Omega.{arith}
@@ -24,6 +24,7 @@ pub item_number : (field : Field) (n after : ℕ) → field ≡ Number n → ite
 unfolding item shown
 item_number field n after e = rw e
 
-pub item_absent : (field : Field) (after : ℕ) → field ≡ Absent → item field after ≡ dash ∷ after ∷ []
+pub item_absent : (field : Field) (after : ℕ) → ((n : ℕ) → field ≡ Number n → ⊥) → item field after ≡ dash ∷ after ∷ []
 unfolding item shown
-item_absent field after e = rw e
+item_absent (Number n) after h = absurd (h n refl)
+item_absent Absent after h = refl
