@@ -2,11 +2,11 @@
 #![tactic(auto)]
 
 mod classes;
-mod frames;
+mod frame_cases;
 
 use std::io;
 
 pub fn run(rt: &impl Print) -> io::Result<()> {
     classes::run(rt)?;
-    frames::run(rt)
+    frame_cases::run(rt)
 }
