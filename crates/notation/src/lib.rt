@@ -1,4 +1,5 @@
-// How the test programs write words, numbers, refusals and boards. Boards are written as the papers write them, from the highest point down.
+// How the test programs write words, numbers, refusals and boards. Boards are written as the papers write them, from the highest point down. Where a
+// write fails, its error is the answer and nothing more is written; no other error comes.
 #![tactic(auto)]
 
 ghost use Rattle.std.specs.Prelude.{◌≤◌};

@@ -44,7 +44,7 @@ fn serve(
 }
 
 // The session of the program `desk`. The one-ring tablebase has 1,302 entries. Each of a block's 1,024 bytes may end a line, whose answer takes 126 bytes
-// at most. Where a read or a write fails, its error is the answer.
+// at most. Where a read or a write fails, its error is the answer; no other error comes.
 pub fn run(rt: &HostRuntime) -> io::Result<()> {
     let mut tablebase = [0u16; 1302];
     let mut block = [0u8; 1024];
