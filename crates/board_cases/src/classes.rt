@@ -1,56 +1,42 @@
 // Representatives of classes.
-use answers::{Represented, Unranked};
-use notation::{about, add, board_of, colon, end, least, number, refused, table, text};
+use notation::{Points, board_of, number, points_of, refused};
 use play_cases::three_rings;
 use std::io;
 
 fn representative_of(rt: &impl Print, rings: u8, board: &[u8]) -> io::Result<()> {
-    about(rt, b"representative", rings, board)?;
-    colon(rt)?;
+    print!(rt; "representative {rings} {}:", Points(board))?;
     match class_calls::representative(rings, board) {
-        Represented::Rank(r) => number(rt, r)?,
-        Represented::Refused(n) => refused(rt, n)?,
+        Ok(r) => number(rt, r)?,
+        Err(refusal) => refused(rt, refusal.number())?,
     }
-    end(rt)
+    println!(rt)
 }
 
 // The rank of the representative of a board's class.
 fn representative(rt: &impl Print, rings: u8, length: usize, digits: u64) -> io::Result<()> {
     let board = board_of(digits);
-    let n = least(length, 24);
-    representative_of(rt, rings, &board[0..n])
+    representative_of(rt, rings, &board[..length.min(24)])
 }
 
-// 1 where a rank is its own representative's, else 0.
-fn own(rings: u8, mover: u8, opponent: u8, rank: u64, board: &mut [u8]) -> u64 {
-    let Unranked::Written = rank_calls::unrank(rings, mover, opponent, rank, board) else {
-        return 0;
+// Whether a rank is its own representative's.
+fn is_own(rings: u8, mover: u8, opponent: u8, rank: u64) -> bool {
+    let mut all = [0u8; 24];
+    let board = &mut all[..points_of(rings)];
+    let Ok(()) = rank_calls::unrank(rings, mover, opponent, rank, board) else {
+        return false;
     };
-    let Represented::Rank(r) = class_calls::representative(rings, board) else {
-        return 0;
+    let Ok(r) = class_calls::representative(rings, board) else {
+        return false;
     };
-    if r == rank { 1 } else { 0 }
+    r == rank
 }
 
-// How many of a table's ranks are.
-fn count(rings: u8, mover: u8, opponent: u8, size: u64, board: &mut [u8]) -> u64 {
-    let mut n: u64 = 0;
-    let mut r: u64 = 0;
-    while r < size {
-        n = add(n, own(rings, mover, opponent, r, board));
-        r += 1;
-    }
-    n
-}
-
-// How many classes a table has.
+// How many classes a table has: as many as it has ranks that are.
 fn classes(rt: &impl Print, rings: u8, mover: u8, opponent: u8, size: u64) -> io::Result<()> {
-    table(rt, b"classes", rings, mover, opponent)?;
-    colon(rt)?;
-    let mut board = [0u8; 24];
-    let n = least(8 * rings as usize, 24);
-    number(rt, count(rings, mover, opponent, size, &mut board[0..n]))?;
-    end(rt)
+    let own = (0..size)
+        .filter(|r| is_own(rings, mover, opponent, *r))
+        .count();
+    println!(rt; "classes {rings} {mover} {opponent}: {own}")
 }
 
 // A board, a turn and a mirror of it; others, one with its rings reversed, one that no game reaches; and each refusal. Then the classes of whole

@@ -1,39 +1,29 @@
 // Frames read and written.
-use answers::{Frame, Framed};
-use notation::{about, board_of, colon, end, least, number, refused, space, text};
+use notation::{Ascii, Points, board_of, number, refused};
 use play_cases::three_rings;
 use std::io;
 
 // The position of a frame: its rings and its two sets.
 fn read_frame(rt: &impl Print, frame: &[u8]) -> io::Result<()> {
-    text(rt, b"read frame ")?;
-    text(rt, frame)?;
-    colon(rt)?;
+    print!(rt; "read frame {}:", Ascii(frame))?;
     match frame_calls::read_frame(frame) {
-        Frame::Position {
-            rings,
-            mover,
-            opponent,
-        } => {
-            number(rt, rings as u64)?;
-            number(rt, mover as u64)?;
-            number(rt, opponent as u64)?;
+        Ok(position) => {
+            number(rt, position.rings as u64)?;
+            number(rt, position.mover as u64)?;
+            number(rt, position.opponent as u64)?;
         }
-        Frame::Refused(n) => refused(rt, n)?,
+        Err(refusal) => refused(rt, refusal.number())?,
     }
-    end(rt)
+    println!(rt)
 }
 
 fn write_over(rt: &impl Print, rings: u8, board: &[u8], target: &mut [u8]) -> io::Result<()> {
-    about(rt, b"write frame", rings, board)?;
-    colon(rt)?;
+    print!(rt; "write frame {rings} {}:", Points(board))?;
     match frame_calls::write_frame(rings, board, target) {
-        Framed::Length(n) => number(rt, n as u64)?,
-        Framed::Refused(n) => refused(rt, n)?,
+        Ok(n) => number(rt, n as u64)?,
+        Err(refusal) => refused(rt, refusal.number())?,
     }
-    space(rt)?;
-    text(rt, target)?;
-    end(rt)
+    println!(rt; " {}", Ascii(target))
 }
 
 // A board as a frame, and what a target of dots then holds.
@@ -45,10 +35,13 @@ fn write_frame(
     room: usize,
 ) -> io::Result<()> {
     let board = board_of(digits);
-    let n = least(length, 24);
-    let mut target = [46u8; 16];
-    let m = least(room, 16);
-    write_over(rt, rings, &board[0..n], &mut target[0..m])
+    let mut target = [b'.'; 16];
+    write_over(
+        rt,
+        rings,
+        &board[..length.min(24)],
+        &mut target[..room.min(16)],
+    )
 }
 
 // Each refusal of a frame.
@@ -82,7 +75,7 @@ fn written(rt: &impl Print) -> io::Result<()> {
     write_frame(rt, 1, 8, 11120202, 6)?;
     write_frame(rt, 1, 8, 11120202, 5)?;
     write_frame(rt, 2, 16, 0001001002220101, 10)?;
-    write_over(rt, 3, &three_rings(), &mut [46; 16])?;
+    write_over(rt, 3, &three_rings(), &mut [b'.'; 16])?;
     write_frame(rt, 3, 24, 222222222111, 16)?;
     write_frame(rt, 0, 8, 02122011, 6)?;
     write_frame(rt, 1, 7, 2122011, 6)?;

@@ -3,61 +3,79 @@
 
 mod changes;
 
-use changes::{Change, write_anew};
-use fill_cases::{DRAW_ENTRY, VOID_ENTRY, contents, hold, put};
-use morris::Checked;
-use notation::{colon, end, least, number, print, refused, text, wider};
-use std::io;
+use changes::{capped, decided, mark, write_anew};
+use fill_cases::{DRAW_ENTRY, VOID_ENTRY, contents, put};
+use notation::{number, refused, text};
+use std::{fmt, io};
 
-// The call, and how many entries it is lent.
-fn about(rt: &impl Print, rings: u8, edition: u8, k: u8, tablebase: &[u16]) -> io::Result<()> {
-    print(
-        rt,
-        b"check % % % over %",
-        &[
-            rings as u64,
-            edition as u64,
-            k as u64,
-            tablebase.len() as u64,
-        ],
-    )
+// A call of the check.
+#[derive(Clone, Copy)]
+struct Call<'a> {
+    rings: u8,
+    edition: u8,
+    k: u8,
+    tablebase: &'a [u16],
 }
 
-fn answer(rt: &impl Print, rings: u8, edition: u8, k: u8, tablebase: &[u16]) -> io::Result<()> {
-    colon(rt)?;
+// The call, and how many entries it is lent.
+impl fmt::Display for Call<'_> {
+    fn fmt<W: fmt::Write>(&self, f: &mut fmt::Formatter<W>) -> fmt::Result {
+        let Call {
+            rings,
+            edition,
+            k,
+            tablebase,
+        } = *self;
+        write!(f, "check {rings} {edition} {k} over {}", tablebase.len())
+    }
+}
+
+impl<'a> Call<'a> {
+    fn new(rings: u8, edition: u8, k: u8, tablebase: &'a [u16]) -> Call<'a> {
+        Call {
+            rings,
+            edition,
+            k,
+            tablebase,
+        }
+    }
+}
+
+// What a call answers.
+fn answer(rt: &impl Print, call: Call<'_>) -> io::Result<()> {
+    let Call {
+        rings,
+        edition,
+        k,
+        tablebase,
+    } = call;
+    print!(rt; ":")?;
     match morris::check(rings, edition, k, tablebase) {
-        Checked::Passed => text(rt, b" passed"),
-        Checked::Fails(index) => {
+        Ok(None) => text(rt, b" passed"),
+        Ok(Some(index)) => {
             text(rt, b" fails at")?;
             number(rt, index)
         }
-        Checked::Refused(n) => refused(rt, n),
+        Err(refusal) => refused(rt, refusal.number()),
     }
 }
 
 // A tablebase as a fill under one edition made it, checked under the same or the other.
-fn filled(
-    rt: &impl Print,
-    under: u8,
-    rings: u8,
-    edition: u8,
-    k: u8,
-    tablebase: &[u16],
-) -> io::Result<()> {
-    about(rt, rings, edition, k, tablebase)?;
-    print(rt, b" filled under %", &[under as u64])?;
-    answer(rt, rings, edition, k, tablebase)?;
-    end(rt)
+fn filled(rt: &impl Print, under: u8, call: Call<'_>) -> io::Result<()> {
+    print!(rt; "{call} filled under {under}")?;
+    answer(rt, call)?;
+    println!(rt)
 }
 
 // Both editions; K 9 has the same places, and the first of them are those of K 3.
 fn one_ring_filled(rt: &impl Print, under: u8) -> io::Result<()> {
     let mut tablebase = [0u16; 1302];
-    morris::fill(1, under, 5, 2000, &mut tablebase);
-    filled(rt, under, 1, 1, 5, &tablebase)?;
-    filled(rt, under, 1, 2, 5, &tablebase)?;
-    filled(rt, under, 1, under, 9, &tablebase)?;
-    filled(rt, under, 1, under, 3, &tablebase[0..560])
+    let _ = morris::fill(1, under, 5, 2000, &mut tablebase);
+    let of_three = &tablebase[..560];
+    filled(rt, under, Call::new(1, 1, 5, &tablebase))?;
+    filled(rt, under, Call::new(1, 2, 5, &tablebase))?;
+    filled(rt, under, Call::new(1, under, 9, &tablebase))?;
+    filled(rt, under, Call::new(1, under, 3, of_three))
 }
 
 // A tablebase filled under edition 1 but for one entry.
@@ -69,16 +87,12 @@ fn with_entry(
     entry: u16,
     tablebase: &mut [u16],
 ) -> io::Result<()> {
-    morris::fill(rings, 1, k, 2000, tablebase);
+    let _ = morris::fill(rings, 1, k, 2000, tablebase);
     put(tablebase, place, entry);
-    about(rt, rings, 1, k, tablebase)?;
-    print(
-        rt,
-        b" filled under 1 with % at %",
-        &[wider(entry), place as u64],
-    )?;
-    answer(rt, rings, 1, k, tablebase)?;
-    end(rt)
+    let call = Call::new(rings, 1, k, tablebase);
+    print!(rt; "{call} filled under 1 with {entry} at {place}")?;
+    answer(rt, call)?;
+    println!(rt)
 }
 
 fn one_ring_with(rt: &impl Print, place: usize, entry: u16) -> io::Result<()> {
@@ -120,13 +134,12 @@ fn throughout(
     entry: u16,
 ) -> io::Result<()> {
     let mut entries = [0u16; 1303];
-    let n = least(length, 1303);
-    let tablebase = &mut entries[0..n];
-    hold(tablebase, entry);
-    about(rt, rings, edition, k, tablebase)?;
-    print(rt, b" of %", &[wider(entry)])?;
-    answer(rt, rings, edition, k, tablebase)?;
-    end(rt)
+    let tablebase = &mut entries[..length.min(1303)];
+    tablebase.fill(entry);
+    let call = Call::new(rings, edition, k, tablebase);
+    print!(rt; "{call} of {entry}")?;
+    answer(rt, call)?;
+    println!(rt)
 }
 
 // All of one kind.
@@ -162,34 +175,30 @@ fn refusals(rt: &impl Print) -> io::Result<()> {
 
 fn marks_alone(rt: &impl Print) -> io::Result<()> {
     let mut tablebase = [0u16; 1302];
-    morris::fill(1, 1, 5, 2000, &mut tablebase);
-    write_anew(&mut tablebase, Change::Marks);
-    about(rt, 1, 1, 5, &tablebase)?;
-    text(rt, b" filled under 1 with marks alone")?;
-    answer(rt, 1, 1, 5, &tablebase)?;
+    let _ = morris::fill(1, 1, 5, 2000, &mut tablebase);
+    write_anew(&mut tablebase, mark);
+    let call = Call::new(1, 1, 5, &tablebase);
+    print!(rt; "{call} filled under 1 with marks alone")?;
+    answer(rt, call)?;
     contents(rt, &tablebase)
 }
 
 // A depth written over the draws between two places.
 fn decide(tablebase: &mut [u16], start: usize, end: usize, depth: u16) {
-    let to = least(end, tablebase.len());
-    let from = least(start, to);
-    write_anew(&mut tablebase[from..to], Change::Draws(depth));
+    if let Some(entries) = tablebase.get_mut(start..end) {
+        write_anew(entries, |entry| decided(entry, depth));
+    }
 }
 
 // The draws of three against four, and those of four against three, as depths.
 fn draws_as(rt: &impl Print, first: u16, second: u16) -> io::Result<()> {
     let mut tablebase = [0u16; 1302];
-    morris::fill(1, 1, 5, 2000, &mut tablebase);
+    let _ = morris::fill(1, 1, 5, 2000, &mut tablebase);
     decide(&mut tablebase, 560, 840, first);
     decide(&mut tablebase, 896, 1176, second);
-    about(rt, 1, 1, 5, &tablebase)?;
-    print(
-        rt,
-        b" filled under 1 with draws of 3 4 as % and of 4 3 as %",
-        &[wider(first), wider(second)],
-    )?;
-    answer(rt, 1, 1, 5, &tablebase)?;
+    let call = Call::new(1, 1, 5, &tablebase);
+    print!(rt; "{call} filled under 1 with draws of 3 4 as {first} and of 4 3 as {second}")?;
+    answer(rt, call)?;
     contents(rt, &tablebase)
 }
 
@@ -203,39 +212,31 @@ fn families(rt: &impl Print) -> io::Result<()> {
     draws_as(rt, VOID_ENTRY, 65533)
 }
 
-// A pair filled, and written anew before a larger one is filled over it.
-fn fill_changed(rings: u8, mover: u8, opponent: u8, k: u8, change: Change, tablebase: &mut [u16]) {
-    morris::fill_pair(rings, 1, mover, opponent, k, 2000, tablebase);
-    write_anew(tablebase, change);
-}
-
-// The pairs in order; one that K leaves out is refused.
-fn fill_in_pairs(rings: u8, k: u8, change: Change, tablebase: &mut [u16]) {
-    fill_changed(rings, 3, 3, k, change, tablebase);
-    fill_changed(rings, 4, 3, k, change, tablebase);
-    fill_changed(rings, 4, 4, k, change, tablebase);
-    fill_changed(rings, 5, 3, k, change, tablebase);
+// The pairs in order, each written anew before a larger one is filled over it; one that K leaves out is refused.
+fn fill_in_pairs<F: Fn(u16) -> u16>(rings: u8, k: u8, tablebase: &mut [u16], change: F)
+    requires { F.IsAlwaysCallable change }
+{
+    for (mover, opponent) in [(3, 3), (4, 3), (4, 4), (5, 3)] {
+        let _ = morris::fill_pair(rings, 1, mover, opponent, k, 2000, tablebase);
+        write_anew(tablebase, &change);
+    }
 }
 
 // As the buyers' old library made it: a cap as the depth of what ends beyond it, and larger tables over that number.
 fn with_cap(rt: &impl Print, rings: u8, k: u8, cap: u16, tablebase: &mut [u16]) -> io::Result<()> {
-    fill_in_pairs(rings, k, Change::Cap(cap), tablebase);
-    about(rt, rings, 1, k, tablebase)?;
-    print(rt, b" filled in pairs under 1 with cap %", &[wider(cap)])?;
-    answer(rt, rings, 1, k, tablebase)?;
+    fill_in_pairs(rings, k, tablebase, |entry| capped(entry, cap));
+    let call = Call::new(rings, 1, k, tablebase);
+    print!(rt; "{call} filled in pairs under 1 with cap {cap}")?;
+    answer(rt, call)?;
     contents(rt, tablebase)
 }
 
 // The same with the cap over draws too, which are as open at the cap.
 fn with_cap_over_draws(rt: &impl Print, cap: u16, tablebase: &mut [u16]) -> io::Result<()> {
-    fill_in_pairs(1, 5, Change::CapAll(cap), tablebase);
-    about(rt, 1, 1, 5, tablebase)?;
-    print(
-        rt,
-        b" filled in pairs under 1 with cap % over draws too",
-        &[wider(cap)],
-    )?;
-    answer(rt, 1, 1, 5, tablebase)?;
+    fill_in_pairs(1, 5, tablebase, |entry| entry.min(cap));
+    let call = Call::new(1, 1, 5, tablebase);
+    print!(rt; "{call} filled in pairs under 1 with cap {cap} over draws too")?;
+    answer(rt, call)?;
     contents(rt, tablebase)
 }
 
@@ -262,9 +263,9 @@ fn two_rings_with(rt: &impl Print, tablebase: &mut [u16]) -> io::Result<()> {
 }
 
 fn two_rings_filled(rt: &impl Print, under: u8, tablebase: &mut [u16]) -> io::Result<()> {
-    morris::fill(2, under, 4, 2000, tablebase);
-    filled(rt, under, 2, 1, 4, tablebase)?;
-    filled(rt, under, 2, 2, 4, tablebase)
+    let _ = morris::fill(2, under, 4, 2000, tablebase);
+    filled(rt, under, Call::new(2, 1, 4, tablebase))?;
+    filled(rt, under, Call::new(2, 2, 4, tablebase))
 }
 
 // No depth is above 13, and none of three against three above 9.

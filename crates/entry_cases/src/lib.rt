@@ -1,11 +1,10 @@
-// Document 01's cases of entries looked up and of best moves, in a tablebase of one ring, a printed line for each.
+// Document 01's cases of entries looked up and of best moves, in a tablebase of one ring, a printed line for each. A case is written as its call is, so that
+// the functions over it take their arguments one by one too.
 #![tactic(auto)]
 
 use fill_cases::{VOID_ENTRY, make_up};
-use morris::{Chosen, Looked, Unranked};
-use notation::{
-    about_under, board_of, colon, end, least, number, print, refused, text, wider, with_digit,
-};
+use morris::{BestMove, Refusal};
+use notation::{Points, board_of, number, refused, wider, with_digit};
 use std::io;
 
 // The entry of a board of so many points in a tablebase of largest count k.
@@ -19,16 +18,13 @@ fn lookup(
     tablebase: &[u16],
 ) -> io::Result<()> {
     let all = board_of(digits);
-    let points = least(length, 24);
-    let board = &all[0..points];
-    about_under(rt, b"lookup", rings, edition, board)?;
-    number(rt, k as u64)?;
-    colon(rt)?;
+    let board = &all[..length.min(24)];
+    print!(rt; "lookup {rings} {edition} {} {k}:", Points(board))?;
     match morris::lookup(rings, edition, board, k, tablebase) {
-        Looked::Entry(e) => number(rt, wider(e))?,
-        Looked::Refused(n) => refused(rt, n)?,
+        Ok(e) => number(rt, wider(e))?,
+        Err(refusal) => refused(rt, refusal.number())?,
     }
-    end(rt)
+    println!(rt)
 }
 
 // The best move of a board, and the entry of the successor that it leads to.
@@ -42,19 +38,16 @@ fn best_move(
     tablebase: &[u16],
 ) -> io::Result<()> {
     let all = board_of(digits);
-    let points = least(length, 24);
-    let board = &all[0..points];
-    about_under(rt, b"best move", rings, edition, board)?;
-    number(rt, k as u64)?;
-    colon(rt)?;
+    let board = &all[..length.min(24)];
+    print!(rt; "best move {rings} {edition} {} {k}:", Points(board))?;
     match morris::best_move(rings, edition, board, k, tablebase) {
-        Chosen::Move { number: n, entry } => {
-            number(rt, wider(n))?;
-            number(rt, wider(entry))?;
+        Ok(best) => {
+            number(rt, wider(best.number))?;
+            number(rt, wider(best.entry))?;
         }
-        Chosen::Refused(n) => refused(rt, n)?,
+        Err(refusal) => refused(rt, refusal.number())?,
     }
-    end(rt)
+    println!(rt)
 }
 
 // The entry of a board, and its best move.
@@ -156,31 +149,32 @@ fn unreachable(rt: &impl Print, tablebase: &[u16]) -> io::Result<()> {
     both(rt, 2, 1, 16, 222222222111, 9, tablebase)
 }
 
-fn entry_of(answer: Looked) -> u64 {
+fn entry_of(answer: Result<u16, Refusal>) -> u64 {
     match answer {
-        Looked::Entry(e) => wider(e),
-        Looked::Refused(n) => 65536 + n as u64,
+        Ok(e) => wider(e),
+        Err(refusal) => 65536 + refusal.number() as u64,
     }
 }
 
-fn choice_of(answer: Chosen) -> u64 {
+fn choice_of(answer: Result<BestMove, Refusal>) -> u64 {
     match answer {
-        Chosen::Move { number: n, entry } => with_digit(wider(n), wider(entry)),
-        Chosen::Refused(n) => n as u64,
+        Ok(best) => with_digit(wider(best.number), wider(best.entry)),
+        Err(refusal) => refusal.number() as u64,
     }
+}
+
+// A tablebase of one ring with K 5, and the edition under which all its boards are asked about.
+#[derive(Clone, Copy)]
+struct Asked<'a> {
+    edition: u8,
+    tablebase: &'a [u16],
 }
 
 // A rank's entry and best move as two more digits.
-fn with_board(
-    digits: u64,
-    edition: u8,
-    mover: u8,
-    opponent: u8,
-    rank: u64,
-    board: &mut [u8],
-    tablebase: &[u16],
-) -> u64 {
-    let Unranked::Written = morris::unrank(1, mover, opponent, rank, board) else {
+fn with_board(asked: Asked<'_>, digits: u64, mover: u8, opponent: u8, rank: u64) -> u64 {
+    let Asked { edition, tablebase } = asked;
+    let board = &mut [0u8; 8];
+    let Ok(()) = morris::unrank(1, mover, opponent, rank, board) else {
         return digits;
     };
     let entry = entry_of(morris::lookup(1, edition, board, 5, tablebase));
@@ -188,54 +182,32 @@ fn with_board(
     with_digit(with_digit(digits, entry), choice)
 }
 
-fn digits(
-    edition: u8,
-    mover: u8,
-    opponent: u8,
-    size: u64,
-    board: &mut [u8],
-    tablebase: &[u16],
-) -> u64 {
-    let mut digits: u64 = 0;
-    let mut rank: u64 = 0;
-    while rank < size {
-        digits = with_board(digits, edition, mover, opponent, rank, board, tablebase);
-        rank += 1;
+impl Asked<'_> {
+    // The entries and best moves of a table's boards, as the digits of a number modulo a prime.
+    fn answers(
+        self,
+        rt: &impl Print,
+        word: &str,
+        mover: u8,
+        opponent: u8,
+        size: u64,
+    ) -> io::Result<()> {
+        let edition = self.edition;
+        let digits = (0..size).fold(0, |digits, rank| {
+            with_board(self, digits, mover, opponent, rank)
+        });
+        println!(rt; "{word} 1 {edition} {mover} {opponent}: digits {digits}")
     }
-    digits
-}
 
-// The entries and best moves of a table's boards, as the digits of a number modulo a prime.
-fn answers(
-    rt: &impl Print,
-    word: &[u8],
-    edition: u8,
-    mover: u8,
-    opponent: u8,
-    size: u64,
-    tablebase: &[u16],
-) -> io::Result<()> {
-    text(rt, word)?;
-    print(
-        rt,
-        b" 1 % % %: digits",
-        &[edition as u64, mover as u64, opponent as u64],
-    )?;
-    number(
-        rt,
-        digits(edition, mover, opponent, size, &mut [0; 8], tablebase),
-    )?;
-    end(rt)
-}
-
-// Every table of the tablebase.
-fn tables(rt: &impl Print, word: &[u8], edition: u8, tablebase: &[u16]) -> io::Result<()> {
-    answers(rt, word, edition, 3, 3, 560, tablebase)?;
-    answers(rt, word, edition, 3, 4, 280, tablebase)?;
-    answers(rt, word, edition, 3, 5, 56, tablebase)?;
-    answers(rt, word, edition, 4, 3, 280, tablebase)?;
-    answers(rt, word, edition, 4, 4, 70, tablebase)?;
-    answers(rt, word, edition, 5, 3, 56, tablebase)
+    // Every table of the tablebase.
+    fn tables(self, rt: &impl Print, word: &str) -> io::Result<()> {
+        self.answers(rt, word, 3, 3, 560)?;
+        self.answers(rt, word, 3, 4, 280)?;
+        self.answers(rt, word, 3, 5, 56)?;
+        self.answers(rt, word, 4, 3, 280)?;
+        self.answers(rt, word, 4, 4, 70)?;
+        self.answers(rt, word, 5, 3, 56)
+    }
 }
 
 // One void, where document 01's first board stands: its entry and its predecessors' best moves are refused, its own best move is not.
@@ -252,7 +224,11 @@ fn void_entry(rt: &impl Print) -> io::Result<()> {
     best_move(rt, 1, 1, 8, 10211022, 4, tablebase)?;
     best_move(rt, 1, 3, 8, 10211022, 5, tablebase)?;
     best_move(rt, 1, 1, 8, 11120202, 5, tablebase)?;
-    answers(rt, b"answers beside a void", 1, 3, 3, 560, tablebase)
+    let asked = Asked {
+        edition: 1,
+        tablebase,
+    };
+    asked.answers(rt, "answers beside a void", 3, 3, 560)
 }
 
 // One void, where a closed mill without a removal leads: a successor under edition 2 alone.
@@ -275,33 +251,45 @@ fn edition_2(rt: &impl Print, tablebase: &[u16]) -> io::Result<()> {
     best_move(rt, 1, 2, 8, 01011222, 5, tablebase)?;
     best_move(rt, 1, 2, 8, 10111222, 5, tablebase)?;
     best_move(rt, 1, 2, 8, 11112222, 5, tablebase)?;
-    text(rt, b"filled under 2 ")?;
+    print!(rt; "filled under 2 ")?;
     lookup(rt, 1, 1, 8, 01011222, 5, tablebase)?;
-    tables(rt, b"answers", 2, tablebase)
+    let asked = Asked {
+        edition: 2,
+        tablebase,
+    };
+    asked.tables(rt, "answers")
 }
 
 fn filled_under_1(rt: &impl Print) -> io::Result<()> {
-    let mut tablebase = [0u16; 1302];
-    morris::fill(1, 1, 5, 2000, &mut tablebase);
-    lookups(rt, &tablebase)?;
-    lookups_by_edition(rt, &tablebase)?;
-    best_moves(rt, &tablebase)?;
-    best_moves_by_edition(rt, &tablebase)?;
-    unreachable(rt, &tablebase)?;
-    tables(rt, b"answers", 1, &tablebase)
+    let mut entries = [0u16; 1302];
+    let _ = morris::fill(1, 1, 5, 2000, &mut entries);
+    let tablebase = &entries[..];
+    lookups(rt, tablebase)?;
+    lookups_by_edition(rt, tablebase)?;
+    best_moves(rt, tablebase)?;
+    best_moves_by_edition(rt, tablebase)?;
+    unreachable(rt, tablebase)?;
+    let asked = Asked {
+        edition: 1,
+        tablebase,
+    };
+    asked.tables(rt, "answers")
 }
 
 fn filled_under_2(rt: &impl Print) -> io::Result<()> {
     let mut tablebase = [0u16; 1302];
-    morris::fill(1, 2, 5, 2000, &mut tablebase);
+    let _ = morris::fill(1, 2, 5, 2000, &mut tablebase);
     edition_2(rt, &tablebase)
 }
 
 fn over_made_up(rt: &impl Print) -> io::Result<()> {
-    let mut tablebase = [0u16; 1302];
-    make_up(&mut tablebase, 40);
-    tables(rt, b"made-up answers", 1, &tablebase)?;
-    tables(rt, b"made-up answers", 2, &tablebase)
+    let mut entries = [0u16; 1302];
+    make_up(&mut entries, 40);
+    let tablebase = &entries[..];
+    for edition in [1, 2] {
+        Asked { edition, tablebase }.tables(rt, "made-up answers")?;
+    }
+    Ok(())
 }
 
 pub fn run(rt: &impl Print) -> io::Result<()> {

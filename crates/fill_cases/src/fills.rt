@@ -1,29 +1,21 @@
-// Tablebases filled, whole and pair by pair: what each call answered, and sums over what the buffer then holds.
+// Tablebases filled, whole and pair by pair: what each call answered, and sums over what the buffer then holds. A case is written as its call is, so
+// that the functions over it take their arguments one by one too.
 use super::sums::{DRAW_ENTRY, VOID_ENTRY, contents};
-use morris::Solved;
-use notation::{least, number, print, refused, space, text, wider};
+use morris::Refusal;
+use notation::{refused, text};
 use std::io;
 
-fn solved(rt: &impl Print, answer: Solved) -> io::Result<()> {
+fn solved(rt: &impl Print, answer: Result<(), Refusal>) -> io::Result<()> {
     match answer {
-        Solved::Filled => text(rt, b" filled"),
-        Solved::Refused(n) => refused(rt, n),
-    }
-}
-
-// Writes one entry throughout.
-pub fn hold(tablebase: &mut [u16], entry: u16) {
-    let mut i = 0;
-    while i < tablebase.len() {
-        tablebase[i] = entry;
-        i += 1;
+        Ok(()) => text(rt, b" filled"),
+        Err(refusal) => refused(rt, refusal.number()),
     }
 }
 
 // Writes one entry at a place.
 pub fn put(tablebase: &mut [u16], place: usize, entry: u16) {
-    if place < tablebase.len() {
-        tablebase[place] = entry;
+    if let Some(written) = tablebase.get_mut(place) {
+        *written = entry;
     }
 }
 
@@ -37,19 +29,9 @@ fn fill_in(
     tablebase: &mut [u16],
     entry: u16,
 ) -> io::Result<()> {
-    hold(tablebase, entry);
-    print(
-        rt,
-        b"fill % % % % over % of %:",
-        &[
-            rings as u64,
-            edition as u64,
-            k as u64,
-            limit as u64,
-            tablebase.len() as u64,
-            wider(entry),
-        ],
-    )?;
+    tablebase.fill(entry);
+    let length = tablebase.len();
+    print!(rt; "fill {rings} {edition} {k} {limit} over {length} of {entry}:")?;
     solved(rt, morris::fill(rings, edition, k, limit, tablebase))?;
     contents(rt, tablebase)
 }
@@ -65,8 +47,8 @@ fn fill(
     entry: u16,
 ) -> io::Result<()> {
     let mut tablebase = [0u16; 1302];
-    let n = least(length, 1302);
-    fill_in(rt, rings, edition, k, limit, &mut tablebase[0..n], entry)
+    let buffer = &mut tablebase[..length.min(1302)];
+    fill_in(rt, rings, edition, k, limit, buffer, entry)
 }
 
 // The tables of two counts filled, in a buffer that holds what earlier lines left.
@@ -80,18 +62,7 @@ fn fill_pair(
     limit: u32,
     tablebase: &mut [u16],
 ) -> io::Result<()> {
-    print(
-        rt,
-        b"fill pair % % % % % %:",
-        &[
-            rings as u64,
-            edition as u64,
-            mover as u64,
-            opponent as u64,
-            k as u64,
-            limit as u64,
-        ],
-    )?;
+    print!(rt; "fill pair {rings} {edition} {mover} {opponent} {k} {limit}:")?;
     solved(
         rt,
         morris::fill_pair(rings, edition, mover, opponent, k, limit, tablebase),
@@ -109,8 +80,8 @@ fn whole(rt: &impl Print, edition: u8, k: u8, length: usize) -> io::Result<()> {
 // The entries of four against four: the last table with K 4.
 fn four_against_four(rt: &impl Print) -> io::Result<()> {
     let mut tablebase = [7u16; 1190];
-    morris::fill(1, 1, 4, 2000, &mut tablebase);
-    text(rt, b"four against four")?;
+    let _ = morris::fill(1, 1, 4, 2000, &mut tablebase);
+    print!(rt; "four against four")?;
     contents(rt, &tablebase[1120..1190])
 }
 
@@ -208,9 +179,7 @@ fn refused_pairs(rt: &impl Print) -> io::Result<()> {
 
 // A pair filled in a buffer with one void among zeros.
 fn with_void(rt: &impl Print, edition: u8, place: usize, mover: u8, limit: u32) -> io::Result<()> {
-    text(rt, b"void at")?;
-    number(rt, place as u64)?;
-    space(rt)?;
+    print!(rt; "void at {place} ")?;
     let mut tablebase = [0u16; 1190];
     put(&mut tablebase, place, VOID_ENTRY);
     fill_pair(rt, 1, edition, mover, 4, 4, limit, &mut tablebase)
@@ -233,24 +202,18 @@ fn voids(rt: &impl Print) -> io::Result<()> {
 // A made-up entry: a draw, one of two depths that follow each other, or a depth below 9.
 fn made_up(place: usize, depth: u16) -> u16 {
     let x = place % 1009 * 619 % 1009;
-    if x % 4 == 0 {
-        return DRAW_ENTRY;
+    match x % 4 {
+        0 => DRAW_ENTRY,
+        1 => depth,
+        2 => depth.wrapping_add(1),
+        _ => (x % 9) as u16,
     }
-    if x % 4 == 1 {
-        return depth;
-    }
-    if x % 4 == 2 {
-        return std::num::wrapping_add_u16(depth, 1);
-    }
-    (x % 9) as u16
 }
 
 // Writes made-up entries throughout.
 pub fn make_up(tablebase: &mut [u16], depth: u16) {
-    let mut i = 0;
-    while i < tablebase.len() {
-        tablebase[i] = made_up(i, depth);
-        i += 1;
+    for (place, entry) in tablebase.iter_mut().enumerate() {
+        *entry = made_up(place, depth);
     }
 }
 
@@ -264,8 +227,7 @@ fn fill_over(
     limit: u32,
 ) -> io::Result<()> {
     make_up(tablebase, depth);
-    text(rt, b"made up")?;
-    number(rt, wider(depth))?;
+    print!(rt; "made up {depth}")?;
     contents(rt, tablebase)?;
     fill_pair(rt, rings, edition, 3, 4, 4, limit, tablebase)
 }

@@ -4,5 +4,5 @@
 mod fills;
 mod sums;
 
-pub use fills::{hold, make_up, put, run};
+pub use fills::{make_up, put, run};
 pub use sums::{DRAW_ENTRY, VOID_ENTRY, contents};

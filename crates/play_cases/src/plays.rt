@@ -1,10 +1,6 @@
-// Moves listed and made.
+// Moves listed and made. A case is written as its call is, so that the functions over it take their arguments one by one too.
 use super::boards::three_rings;
-use answers::{Listed, Made, Ranked, Unranked};
-use notation::{
-    about_under, add, board_of, colon, end, least, number, numbers, points, print, refused, space,
-    text, wider, with_digit,
-};
+use notation::{Numbers, Points, board_of, number, points_of, refused, text, wider, with_digit};
 use std::io;
 
 fn list_over(
@@ -14,15 +10,12 @@ fn list_over(
     board: &[u8],
     list: &mut [u16],
 ) -> io::Result<()> {
-    about_under(rt, b"moves", rings, edition, board)?;
-    colon(rt)?;
+    print!(rt; "moves {rings} {edition} {}:", Points(board))?;
     match move_calls::moves(rings, edition, board, list) {
-        Listed::Count(n) => number(rt, n as u64)?,
-        Listed::Refused(n) => refused(rt, n)?,
+        Ok(n) => number(rt, n as u64)?,
+        Err(refusal) => refused(rt, refusal.number())?,
     }
-    text(rt, b" in")?;
-    numbers(rt, list)?;
-    end(rt)
+    println!(rt; " in{}", Numbers(list))
 }
 
 // The moves of a board of so many points, and what a list of sevens then holds.
@@ -35,10 +28,14 @@ fn moves(
     room: usize,
 ) -> io::Result<()> {
     let board = board_of(digits);
-    let n = least(length, 24);
     let mut list = [7u16; 12];
-    let m = least(room, 12);
-    list_over(rt, rings, edition, &board[0..n], &mut list[0..m])
+    list_over(
+        rt,
+        rings,
+        edition,
+        &board[..length.min(24)],
+        &mut list[..room.min(12)],
+    )
 }
 
 fn make_over(
@@ -49,16 +46,15 @@ fn make_over(
     move_number: u16,
     target: &mut [u8],
 ) -> io::Result<()> {
-    about_under(rt, b"make move", rings, edition, board)?;
-    number(rt, move_number as u64)?;
-    colon(rt)?;
+    print!(rt;
+        "make move {rings} {edition} {} {move_number}:",
+        Points(board)
+    )?;
     match move_calls::make_move(rings, edition, board, move_number, target) {
-        Made::Written => text(rt, b" written")?,
-        Made::Refused(n) => refused(rt, n)?,
+        Ok(()) => text(rt, b" written")?,
+        Err(refusal) => refused(rt, refusal.number())?,
     }
-    space(rt)?;
-    points(rt, target)?;
-    end(rt)
+    println!(rt; " {}", Points(target))
 }
 
 // The board after a move, and what a target of sevens then holds.
@@ -72,16 +68,14 @@ fn make_move(
     room: usize,
 ) -> io::Result<()> {
     let board = board_of(digits);
-    let n = least(length, 24);
     let mut target = [7u8; 24];
-    let m = least(room, 24);
     make_over(
         rt,
         rings,
         edition,
-        &board[0..n],
+        &board[..length.min(24)],
         move_number,
-        &mut target[0..m],
+        &mut target[..room.min(24)],
     )
 }
 
@@ -158,87 +152,64 @@ fn plies_by_edition(rt: &impl Print) -> io::Result<()> {
     make_move(rt, 1, 0, 8, 02122011, 96, 8)
 }
 
-// The rank of the board after a move, 1000 where its mover has two stones.
-fn next(rings: u8, edition: u8, board: &[u8], move_number: u16, target: &mut [u8]) -> u64 {
-    let Made::Written = move_calls::make_move(rings, edition, board, move_number, target) else {
+// What stands for a move's end among the digits: the rank of the board after it, 1000 where its mover has two stones.
+fn next(rings: u8, edition: u8, board: &[u8], move_number: u16) -> u64 {
+    let mut all = [0u8; 24];
+    let target = &mut all[..points_of(rings)];
+    let Ok(()) = move_calls::make_move(rings, edition, board, move_number, target) else {
         return 0;
     };
-    let Ranked::Rank(r) = rank_calls::rank(rings, target) else {
+    let Ok(r) = rank_calls::rank(rings, target) else {
         return 1000;
     };
     r
 }
 
-// A board's first n moves in their order: after a 1, the digits of a number are their numbers, each with the rank that it leads to.
-fn list_digits(
-    rings: u8,
-    edition: u8,
-    board: &[u8],
-    list: &[u16],
-    n: usize,
-    target: &mut [u8],
-) -> u64 {
-    let most = least(n, list.len());
-    let mut digits: u64 = 1;
-    let mut i = 0;
-    while i < most {
-        let number = list[i];
-        let rank = next(rings, edition, board, number, target);
-        digits = with_digit(with_digit(digits, wider(number)), rank);
-        i += 1;
-    }
-    digits
+// A board's moves in their order: after a 1, the digits of a number are their numbers, each with the rank that it leads to.
+fn list_digits(rings: u8, edition: u8, board: &[u8], list: &[u16]) -> u64 {
+    list.iter().fold(1, |digits, number| {
+        let rank = next(rings, edition, board, *number);
+        with_digit(with_digit(digits, wider(*number)), rank)
+    })
 }
 
-// The same of a rank's board, and how many moves it has.
-fn digits_at(
+// A table under a rules edition.
+#[derive(Clone, Copy)]
+struct Table {
     rings: u8,
     edition: u8,
     mover: u8,
     opponent: u8,
-    rank: u64,
-    board: &mut [u8],
-    list: &mut [u16],
-    target: &mut [u8],
-) -> u64 {
-    let Unranked::Written = rank_calls::unrank(rings, mover, opponent, rank, board) else {
+}
+
+// The digits of the moves of a rank's board, and how many moves it has.
+fn digits_at(table: Table, rank: u64) -> u64 {
+    let Table {
+        rings,
+        edition,
+        mover,
+        opponent,
+    } = table;
+    let mut all = [0u8; 24];
+    let board = &mut all[..points_of(rings)];
+    let list = &mut [0u16; 324];
+    let Ok(()) = rank_calls::unrank(rings, mover, opponent, rank, board) else {
         return 0;
     };
-    let Listed::Count(n) = move_calls::moves(rings, edition, board, list) else {
+    let Ok(n) = move_calls::moves(rings, edition, board, list) else {
         return 0;
     };
     with_digit(
-        list_digits(rings, edition, board, list, n, target),
+        list_digits(rings, edition, board, &list[..n.min(324)]),
         n as u64,
     )
 }
 
 // And of so many ranks, a step apart.
-fn table_digits(
-    rings: u8,
-    edition: u8,
-    mover: u8,
-    opponent: u8,
-    n: u64,
-    step: u64,
-    board: &mut [u8],
-    target: &mut [u8],
-) -> u64 {
-    let mut list = [0u16; 324];
-    let mut digits: u64 = 0;
-    let mut rank: u64 = 0;
-    let mut i: u64 = 0;
-    while i < n {
-        digits = with_digit(
-            digits,
-            digits_at(
-                rings, edition, mover, opponent, rank, board, &mut list, target,
-            ),
-        );
-        rank = add(rank, step);
-        i += 1;
-    }
-    digits
+fn table_digits(table: Table, n: u64, step: u64) -> u64 {
+    (0..n)
+        .map(|i| digits_at(table, i.wrapping_mul(step)))
+        .fold(0, with_digit)
 }
 
 fn lists_of(
@@ -250,28 +221,14 @@ fn lists_of(
     n: u64,
     step: u64,
 ) -> io::Result<()> {
-    print(
-        rt,
-        b"lists of moves % % % %: digits",
-        &[rings as u64, edition as u64, mover as u64, opponent as u64],
-    )?;
-    let mut board = [0u8; 24];
-    let mut target = [0u8; 24];
-    let p = least(8 * rings as usize, 24);
-    number(
-        rt,
-        table_digits(
-            rings,
-            edition,
-            mover,
-            opponent,
-            n,
-            step,
-            &mut board[0..p],
-            &mut target[0..p],
-        ),
-    )?;
-    end(rt)
+    let table = Table {
+        rings,
+        edition,
+        mover,
+        opponent,
+    };
+    let digits = table_digits(table, n, step);
+    println!(rt; "lists of moves {rings} {edition} {mover} {opponent}: digits {digits}")
 }
 
 // All lists of one ring, and those of tables of two and three rings from end to end; under edition 2 those with three or five opposing stones, since

@@ -3,40 +3,19 @@
 
 ghost use Rattle.std.specs.Prelude.{◌≤◌};
 
-use answers::{Ranked, Unranked};
-use notation::{
-    about, board_of, colon, end, least, number, points, print, refused, space, table, text,
-};
+use notation::{Points, board_of, number, points_of, refused, text};
 use std::io;
 
 // The rank of a board of so many points.
 fn rank(rt: &impl Print, rings: u8, length: usize, digits: u64) -> io::Result<()> {
     let all = board_of(digits);
-    let points = least(length, 24);
-    let board = &all[0..points];
-    about(rt, b"rank", rings, board)?;
-    colon(rt)?;
+    let board = &all[..length.min(24)];
+    print!(rt; "rank {rings} {}:", Points(board))?;
     match rank_calls::rank(rings, board) {
-        Ranked::Rank(r) => number(rt, r)?,
-        Ranked::Refused(n) => refused(rt, n)?,
+        Ok(r) => number(rt, r)?,
+        Err(refusal) => refused(rt, refusal.number())?,
     }
-    end(rt)
-}
-
-fn unrank_over(
-    rt: &impl Print,
-    rings: u8,
-    mover: u8,
-    opponent: u8,
-    rank: u64,
-    target: &mut [u8],
-) -> io::Result<()> {
-    match rank_calls::unrank(rings, mover, opponent, rank, target) {
-        Unranked::Written => text(rt, b" written")?,
-        Unranked::Refused(n) => refused(rt, n)?,
-    }
-    space(rt)?;
-    points(rt, target)
+    println!(rt)
 }
 
 // The board of a rank, and what a target of sevens then holds: after a refusal it holds them still.
@@ -48,48 +27,35 @@ fn unrank(
     rank: u64,
     length: usize,
 ) -> io::Result<()> {
-    table(rt, b"unrank", rings, mover, opponent)?;
-    number(rt, rank)?;
-    colon(rt)?;
-    let mut target = [7u8; 24];
-    let n = least(length, 24);
-    unrank_over(rt, rings, mover, opponent, rank, &mut target[0..n])?;
-    end(rt)
+    print!(rt; "unrank {rings} {mover} {opponent} {rank}:")?;
+    let mut all = [7u8; 24];
+    let target = &mut all[..length.min(24)];
+    match rank_calls::unrank(rings, mover, opponent, rank, target) {
+        Ok(()) => text(rt, b" written")?,
+        Err(refusal) => refused(rt, refusal.number())?,
+    }
+    println!(rt; " {}", Points(target))
 }
 
-// 1 where the board of a rank has that rank, else 0.
-fn comes_back(rings: u8, mover: u8, opponent: u8, rank: u64, target: &mut [u8]) -> u64
-    ensures { result ≤ 1 }
-{
-    let Unranked::Written = rank_calls::unrank(rings, mover, opponent, rank, target) else {
-        return 0;
+// Whether the board of a rank has that rank.
+fn comes_back(rings: u8, mover: u8, opponent: u8, rank: u64) -> bool {
+    let mut all = [0u8; 24];
+    let target = &mut all[..points_of(rings)];
+    let Ok(()) = rank_calls::unrank(rings, mover, opponent, rank, target) else {
+        return false;
     };
-    let Ranked::Rank(r) = rank_calls::rank(rings, target) else {
-        return 0;
+    let Ok(r) = rank_calls::rank(rings, target) else {
+        return false;
     };
-    if r == rank { 1 } else { 0 }
+    r == rank
 }
 
 // How many of the first ranks come back from their boards.
-fn back(rings: u8, mover: u8, opponent: u8, ranks: u64, target: &mut [u8]) -> u64 {
-    let mut n: u64 = 0;
-    let mut r: u64 = 0;
-    while r < ranks {
-        n += comes_back(rings, mover, opponent, r, target);
-        r += 1;
-    }
-    n
-}
-
 fn round_trips(rt: &impl Print, rings: u8, mover: u8, opponent: u8, ranks: u64) -> io::Result<()> {
-    let mut target = [0u8; 24];
-    let n = least(8 * rings as usize, 24);
-    let same = back(rings, mover, opponent, ranks, &mut target[0..n]);
-    print(
-        rt,
-        b"round trips % % %: % of %\n",
-        &[rings as u64, mover as u64, opponent as u64, same, ranks],
-    )
+    let same = (0..ranks)
+        .filter(|r| comes_back(rings, mover, opponent, *r))
+        .count();
+    println!(rt; "round trips {rings} {mover} {opponent}: {same} of {ranks}")
 }
 
 // Starred: one ring, 3-3. Then each refusal of a board, and the first of two; and a board that no game reaches.
@@ -136,16 +102,8 @@ fn unranks(rt: &impl Print) -> io::Result<()> {
 fn length(rt: &impl Print, rings: u8, k: u8) -> io::Result<()>
     requires { (rings ≤ 3) × (3 ≤ k) × (k ≤ 9) }
 {
-    text(rt, b"length")?;
-    number(rt, rings as u64)?;
-    number(rt, k as u64)?;
-    colon(rt)?;
-    let binomials = sizes::binomial_table();
-    number(
-        rt,
-        layout::tablebase_length(&binomials, 8 * rings as usize, k as usize) as u64,
-    )?;
-    end(rt)
+    let entries = layout::tablebase_length(8 * rings as usize, k as usize);
+    println!(rt; "length {rings} {k}: {entries}")
 }
 
 // Lengths: one ring as document 01 gives them, with K 9, and some of two and three rings.

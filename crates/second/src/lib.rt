@@ -5,12 +5,16 @@
 // that depth is taken back by every ply that can have led to it. What stood before a lost position is won; what stood before a won one has a
 // ply less to hope for, and is lost with its last. What stays open is drawn.
 //
-// All tables are filled, or two of them over entries that are given: `filled` has the starts of those alone, `starts` those of all.
+// All tables are filled, or two of them over entries that are given.
 #![tactic(auto)]
 
-ghost use Rattle.std.specs.Prelude.{◌<◌, ◌≤◌};
+ghost use Rattle.std.specs.Prelude.{◌<◌, ◌≤◌, IfSome};
 ghost use Rattle.second.specs.Unchanged.{UnchangedUnless};
 
+use second_order::Tables;
+use second_passes::{Edition, Filling};
+
+// The deepest that an entry states. It is not taken back, since one ply more is no depth.
 const DEEPEST: u16 = 65533;
 
 // Fills the tablebase of largest count k under a rules edition: at each place the plies to the end, even lost, odd won, or 65535 for a draw.
@@ -18,11 +22,10 @@ const DEEPEST: u16 = 65533;
 pub fn solve(rings: u8, edition: u8, k: u8, entries: &mut [u16], counts: &mut [u16]) -> bool
     ensures { UnchangedUnless result entries.old entries.new × UnchangedUnless result counts.old counts.new }
 {
-    if outside(rings, edition, k) {
+    let Some(filling) = whole(rings, edition, k) else {
         return false;
-    }
-    let starts = second_order::starts_table(rings, k);
-    fill(&starts, &starts, rings, edition, entries, counts)
+    };
+    fill(&filling, entries, counts)
 }
 
 // Fills the tables (mover, opponent) and (opponent, mover) of such a tablebase and leaves the others as they are. The entries of
@@ -39,81 +42,62 @@ pub fn solve_pair(
 ) -> bool
     ensures { UnchangedUnless result entries.old entries.new × UnchangedUnless result counts.old counts.new }
 {
-    if outside(rings, edition, k) {
+    let Some(filling) = whole(rings, edition, k) else {
         return false;
-    }
-    let starts = second_order::starts_table(rings, k);
-    if second_order::start_of(&starts, mover, opponent) == second_order::NO_TABLE {
+    };
+    let Some(filled) = filling.tables.pair(mover, opponent) else {
         return false;
-    }
-    let pair = second_order::pair_of(&starts, mover, opponent);
-    fill(&starts, &pair, rings, edition, entries, counts)
+    };
+    fill(&Filling { filled, ..filling }, entries, counts)
 }
 
-fn outside(rings: u8, edition: u8, k: u8) -> bool {
-    (rings < 1) | (3 < rings) | (edition < 1) | (2 < edition) | (k < 3) | (9 < k)
+// All tables of such a tablebase to be filled, if rings, edition and k are right.
+fn whole(rings: u8, edition: u8, k: u8) -> Option<Filling> {
+    let edition = match (rings, edition, k) {
+        (1..=3, 1, 3..=9) => Edition::First,
+        (1..=3, 2, 3..=9) => Edition::Second,
+        _ => return None,
+    };
+    let tables = Tables::of(rings, k);
+    Some(Filling {
+        tables,
+        filled: tables,
+        edition,
+    })
 }
 
-// Fills the tables whose starts are in `filled`, if the lengths are those of the tablebase.
-fn fill(
-    starts: &[usize; 101],
-    filled: &[usize; 101],
-    rings: u8,
-    edition: u8,
-    entries: &mut [u16],
-    counts: &mut [u16],
-) -> bool
+// Fills the tables to be filled, if the lengths are those of the tablebase.
+fn fill(filling: &Filling, entries: &mut [u16], counts: &mut [u16]) -> bool
     ensures { UnchangedUnless result entries.old entries.new × UnchangedUnless result counts.old counts.new }
 {
-    let length = starts[second_order::LENGTH];
+    let length = filling.tables.length;
     if (entries.len() != length) | (counts.len() != length) {
         return false;
     }
-    second_passes::open(starts, filled, rings, edition, entries, counts);
-    waves(starts, filled, rings, edition, entries, counts);
+    second_passes::open(filling, entries, counts);
+    waves(filling, entries, counts);
     true
 }
 
-// The nearer of an entry and the nearest so far above a depth.
-fn nearer(entry: u16, depth: u16, nearest: u16) -> u16
-    requires { (depth < nearest) × (nearest ≤ 65533) }
-    ensures { (depth < result) × (result ≤ 65533) }
+// The next greater depth that an entry states and that is not the deepest, if one does. Given depths may leave out any number between them.
+fn next_depth(entries: &[u16], depth: u16) -> Option<u16>
+    ensures { IfSome result (λ d. (depth < d) × (d < 65533)) }
 {
-    if entry <= depth {
-        return nearest;
-    }
-    if nearest < entry {
-        return nearest;
-    }
-    entry
+    entries
+        .iter()
+        .copied()
+        .filter(|entry| (depth < *entry) & (*entry < DEEPEST))
+        .min()
 }
 
-// The next greater depth that an entry states, the deepest if none does. Given depths may leave out any number between them.
-fn next_depth(entries: &[u16], depth: u16) -> u16
-    requires { depth < 65533 }
-    ensures { (depth < result) × (result ≤ 65533) }
-{
-    let mut nearest = DEEPEST;
-    let mut i = 0;
-    while i < entries.len() {
-        nearest = nearer(entries[i], depth, nearest);
-        i += 1;
-    }
-    nearest
-}
-
-// Waves of rising depth, as long as an entry states a greater one. The deepest is not taken back, since one ply more is no depth.
-fn waves(
-    starts: &[usize; 101],
-    filled: &[usize; 101],
-    rings: u8,
-    edition: u8,
-    entries: &mut [u16],
-    counts: &mut [u16],
-) {
-    let mut depth: u16 = 0;
-    while depth < DEEPEST {
-        second_passes::wave(starts, filled, rings, edition, depth, entries, counts);
-        depth = next_depth(entries, depth);
+// Waves of rising depth, as long as an entry states a greater one.
+fn waves(filling: &Filling, entries: &mut [u16], counts: &mut [u16]) {
+    let mut depth = 0;
+    'waves: loop {
+        second_passes::wave(filling, depth, entries, counts);
+        let Some(next) = next_depth(entries, depth) else {
+            return;
+        };
+        depth = next;
     }
 }

@@ -10,7 +10,6 @@ mod positions;
 mod ranks;
 mod tables;
 
-pub use points::{adjoin, at, in_mill, moved, with_stone};
-pub use positions::{Position, first_position, next_position};
-pub use ranks::rank;
-pub use tables::{LENGTH, NO_TABLE, follows, pair_of, start_of, starts_table};
+pub use points::{Board, adjoin};
+pub use positions::{Position, Positions};
+pub use tables::Tables;

@@ -4,7 +4,7 @@
 // of one stone less than none.
 ghost use Rattle.std.specs.Prelude.{◌+◌, ◌<◌, ◌≤◌};
 
-use super::points::{at, stones};
+use super::points::Board;
 
 // The cell of a reading of no point.
 const NOTHING_READ: usize = 12;
@@ -12,20 +12,9 @@ const NOTHING_READ: usize = 12;
 // One more 1 leads a row further, one more 2 to the next cell.
 const ROW: usize = 11;
 
-fn add(x: usize, y: usize) -> usize {
-    std::num::wrapping_add_usize(x, y)
-}
-
-fn get(lower: &[usize; 132], cell: usize) -> usize {
-    if cell < 132 {
-        return lower[cell];
-    }
-    0
-}
-
 fn one_more(lower: &mut [usize; 132], cell: usize) {
-    if cell < 132 {
-        lower[cell] = add(lower[cell], 1);
+    if let Some(readings) = lower.get_mut(cell) {
+        *readings = readings.wrapping_add(1);
     }
 }
 
@@ -33,18 +22,16 @@ fn one_more(lower: &mut [usize; 132], cell: usize) {
 fn read_cell(lower: &mut [usize; 132], cell: usize)
     requires { (11 ≤ cell) × (cell < 132) }
 {
-    let with_stone = add(lower[cell - 1], lower[cell - ROW]);
-    lower[cell] = add(lower[cell], with_stone);
+    let with_stone = lower[cell - 1].wrapping_add(lower[cell - ROW]);
+    lower[cell] = lower[cell].wrapping_add(with_stone);
 }
 
 // A row up to o 2s, from the last cell to the first: each is made from cells before it as they were.
 fn read_row(lower: &mut [usize; 132], first: usize, o: usize)
     requires { (11 ≤ first) × (first + o < 132) }
 {
-    let mut left = o + 1;
-    while 0 < left {
-        left -= 1;
-        read_cell(lower, first + left);
+    for twos in (0..o + 1).rev() {
+        read_cell(lower, first + twos);
     }
 }
 
@@ -52,10 +39,8 @@ fn read_row(lower: &mut [usize; 132], first: usize, o: usize)
 fn read_point(lower: &mut [usize; 132], m: usize, o: usize)
     requires { (m ≤ 9) × (o ≤ 9) }
 {
-    let mut left = m + 1;
-    while 0 < left {
-        left -= 1;
-        read_row(lower, NOTHING_READ + ROW * left, o);
+    for ones in (0..m + 1).rev() {
+        read_row(lower, NOTHING_READ + ROW * ones, o);
     }
 }
 
@@ -65,40 +50,34 @@ fn branch_off(lower: &mut [usize; 132], own: usize, v: u8) {
         one_more(lower, own);
     }
     if v == 2 {
-        one_more(lower, add(own, ROW));
+        one_more(lower, own.wrapping_add(ROW));
     }
 }
 
 // The cell of the board's own reading after a point where v stands.
 fn own_after(own: usize, v: u8) -> usize {
-    if v == 1 {
-        return add(own, ROW);
+    match v {
+        1 => own.wrapping_add(ROW),
+        2 => own.wrapping_add(1),
+        _ => own,
     }
-    if v == 2 {
-        return add(own, 1);
-    }
-    own
 }
 
-// How many boards of the same counts come before this one. No table has a board with more than nine stones of a side.
-pub fn rank(rings: u8, board: &[u8; 24]) -> usize {
-    let m = stones(board, 1);
-    let o = stones(board, 2);
-    if 9 < m {
-        return 0;
+impl Board {
+    // How many boards of the same counts come before this one. A board with more than nine stones of a side is in no table, and has no rank.
+    pub fn rank(&self) -> Option<usize> {
+        let m = self.count(1);
+        let o = self.count(2);
+        if (9 < m) | (9 < o) {
+            return None;
+        }
+        let mut lower = [0usize; 132];
+        let mut own = NOTHING_READ;
+        for v in self.values[..self.points()].iter().rev() {
+            read_point(&mut lower, m, o);
+            branch_off(&mut lower, own, *v);
+            own = own_after(own, *v);
+        }
+        lower.get(own).copied()
     }
-    if 9 < o {
-        return 0;
-    }
-    let mut lower = [0usize; 132];
-    let mut own = NOTHING_READ;
-    let mut p = 8 * rings as usize;
-    while 0 < p {
-        p -= 1;
-        read_point(&mut lower, m, o);
-        let v = at(board, p);
-        branch_off(&mut lower, own, v);
-        own = own_after(own, v);
-    }
-    get(&lower, own)
 }

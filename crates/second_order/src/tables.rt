@@ -1,85 +1,75 @@
 // Where the tables of a tablebase start, by rising m, then o. A table is as long as its last board's rank says.
-use super::boards::last_board;
-use super::ranks::rank;
+ghost use Rattle.std.specs.Prelude.{◌<◌, IfSome};
 
-// Where no table starts.
-pub const NO_TABLE: usize = 18446744073709551615;
+use super::points::Board;
 
-// Where, after the starts of the tables, the length of the tablebase stands.
-pub const LENGTH: usize = 100;
+// The tables of a tablebase, or some of them.
+#[derive(Clone, Copy)]
+pub struct Tables {
+    pub rings: u8,
 
-fn add(x: usize, y: usize) -> usize {
-    std::num::wrapping_add_usize(x, y)
+    // At 10 m + o where table (m, o) starts.
+    pub(crate) starts: [Option<usize>; 100],
+
+    // How long the tablebase is.
+    pub length: usize,
 }
 
-// The size of table 10 m + o in a tablebase of largest count k, 0 where it has no such table.
-fn size_of(rings: u8, k: u8, table: usize) -> usize {
+// The size of table 10 m + o in a tablebase of largest count k, if it has such a table.
+fn table_size(rings: u8, k: u8, table: usize) -> Option<usize> {
     let m = table / 10;
     let o = table % 10;
-    if (m < 3) | (o < 3) | ((k as usize) < m) | ((k as usize) < o) {
-        return 0;
+    let k = k as usize;
+    if (m < 3) | (o < 3) | (k < m) | (k < o) | (8 * (rings as usize) < m + o) {
+        return None;
     }
-    if 8 * (rings as usize) < add(m, o) {
-        return 0;
-    }
-    add(1, rank(rings, &last_board(rings, m, o)))
+    Some(Board::last(rings, m, o).rank()?.wrapping_add(1))
 }
 
-fn start_if(size: usize, next: usize) -> usize {
-    if size == 0 {
-        return NO_TABLE;
+// Where the start of table (m, o) stands, if m and o are digits.
+fn index(m: u8, o: u8) -> Option<usize>
+    ensures { IfSome result (λ i. i < 100) }
+{
+    if (9 < m) | (9 < o) {
+        return None;
     }
-    next
+    Some(10 * m as usize + o as usize)
 }
 
-// At 10 m + o where table (m, o) starts; at the end the length of the tablebase.
-pub fn starts_table(rings: u8, k: u8) -> [usize; 101] {
-    let mut starts = [0usize; 101];
-    let mut next = 0;
-    let mut i = 0;
-    while i < 100 {
-        let size = size_of(rings, k, i);
-        starts[i] = start_if(size, next);
-        next = add(next, size);
-        i += 1;
+impl Tables {
+    // All tables of a tablebase of largest count k.
+    pub fn of(rings: u8, k: u8) -> Tables {
+        let mut starts = [None; 100];
+        let mut length: usize = 0;
+        for (table, start) in starts.iter_mut().enumerate() {
+            if let Some(size) = table_size(rings, k, table) {
+                *start = Some(length);
+                length = length.wrapping_add(size);
+            }
+        }
+        Tables {
+            rings,
+            starts,
+            length,
+        }
     }
-    starts[100] = next;
-    starts
-}
 
-// Where table (m, o) starts.
-pub fn start_of(starts: &[usize; 101], m: u8, o: u8) -> usize {
-    if 9 < m {
-        return NO_TABLE;
+    // Where table (m, o) starts.
+    pub fn start(&self, m: u8, o: u8) -> Option<usize> {
+        self.starts[index(m, o)?]
     }
-    if 9 < o {
-        return NO_TABLE;
-    }
-    starts[10 * m as usize + o as usize]
-}
 
-fn keep(kept: &mut [usize; 101], starts: &[usize; 101], m: u8, o: u8) {
-    if 9 < m {
-        return;
+    // The tables (m, o) and (o, m) alone, if there are such.
+    pub fn pair(&self, m: u8, o: u8) -> Option<Tables> {
+        let mut pair = *self;
+        pair.starts = [None; 100];
+        pair.starts[index(m, o)?] = Some(self.start(m, o)?);
+        pair.starts[index(o, m)?] = Some(self.start(o, m)?);
+        Some(pair)
     }
-    if 9 < o {
-        return;
+
+    // Whether a ply of one of these tables can lead to table (m, o): the sides had the other names, and one stone more may have stood.
+    pub fn lead_to(&self, m: u8, o: u8) -> bool {
+        self.start(o, m).is_some() | self.start(o, m.wrapping_add(1)).is_some()
     }
-    let table = 10 * m as usize + o as usize;
-    kept[table] = starts[table];
-}
-
-// The starts of the tables (m, o) and (o, m) alone.
-pub fn pair_of(starts: &[usize; 101], m: u8, o: u8) -> [usize; 101] {
-    let mut pair = [NO_TABLE; 101];
-    keep(&mut pair, starts, m, o);
-    keep(&mut pair, starts, o, m);
-    pair
-}
-
-// Whether a ply of one of these tables can lead to table (m, o): the sides had the other names, and one stone more may have stood.
-pub fn follows(starts: &[usize; 101], m: u8, o: u8) -> bool {
-    let as_many = start_of(starts, o, m);
-    let one_more = start_of(starts, o, std::num::wrapping_add_u8(m, 1));
-    (as_many != NO_TABLE) | (one_more != NO_TABLE)
 }

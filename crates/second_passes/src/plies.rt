@@ -1,178 +1,112 @@
 // The first pass: how many plies each position has, and which positions are ends or one ply before one.
-use second_order::{
-    NO_TABLE, Position, adjoin, at, first_position, in_mill, moved, next_position, start_of,
-};
+use second_order::{Board, Position, Tables, adjoin};
 
 // What stands at a place until its depth is found, and stays there for a draw.
 pub const OPEN: u16 = 65535;
 
-// Plies counted: how many, and whether one of them takes a stone.
+// A rules edition: where all opposing stones stand in mills, a mill may take any of them in the first, none in the second.
+#[derive(Clone, Copy, PartialEq, Eq)]
+pub enum Edition {
+    First,
+    Second,
+}
+
+// What is filled: all tables, those of them to be filled, and the rules edition.
 #[derive(Clone, Copy)]
+pub struct Filling {
+    pub tables: Tables,
+    pub filled: Tables,
+    pub edition: Edition,
+}
+
+// Plies counted: how many, and whether one of them takes a stone.
+#[derive(Clone, Copy, Default)]
 struct Tally {
     plies: u16,
     taking: bool,
 }
 
-fn add(x: u16, y: u16) -> u16 {
-    std::num::wrapping_add_u16(x, y)
-}
-
 // Whether an opposing stone outside any mill stands at a point.
-fn is_free(board: &[u8; 24], rings: u8, p: usize) -> bool {
-    (at(board, p) == 2) & !in_mill(board, rings, p)
+fn is_free(board: &Board, p: usize) -> bool {
+    (board.at(p) == 2) & !board.in_mill(p)
 }
 
 // How many opposing stones stand outside any mill.
-fn free_stones(board: &[u8; 24], rings: u8) -> u16 {
-    let mut n: u16 = 0;
-    let mut p = 0;
-    while p < 24 {
-        n = add(n, is_free(board, rings, p) as u16);
-        p += 1;
-    }
-    n
-}
-
-// How many stones a mill may take where all stand in mills: any of them in edition 1, none in edition 2.
-fn shielded(edition: u8, opponent: u8) -> u16 {
-    if edition == 1 {
-        return opponent as u16;
-    }
-    0
+fn free_stones(board: &Board) -> u16 {
+    (0..24).filter(|p| is_free(board, *p)).count() as u16
 }
 
 // How many of the opponent's stones a mill may take: those outside any mill, if there are such.
-pub fn removals(board: &[u8; 24], rings: u8, edition: u8, opponent: u8) -> u16 {
-    let free = free_stones(board, rings);
-    if free == 0 {
-        return shielded(edition, opponent);
+pub fn removals(position: &Position, edition: Edition) -> u16 {
+    let free = free_stones(&position.board);
+    if (free == 0) & (edition == Edition::First) {
+        return position.o as u16;
     }
     free
 }
 
-// Whether a mill may take the stone at a point: it is outside any mill, or all are inside and edition 1 gives any.
-pub fn may_be_taken(board: &[u8; 24], rings: u8, edition: u8, p: usize) -> bool {
-    is_free(board, rings, p) | ((edition == 1) & (free_stones(board, rings) == 0))
+// Whether a mill may take the stone at a point: it is outside any mill, or all are inside and the edition gives any.
+pub fn may_be_taken(board: &Board, edition: Edition, p: usize) -> bool {
+    is_free(board, p) | ((edition == Edition::First) & (free_stones(board) == 0))
 }
 
 // Whether a stone may go from one point to another: to a vacant one, with three stones to any, else to a neighbour. A move is taken back by
 // the same rule.
-pub fn goes(board: &[u8; 24], stones: u8, from: usize, to: usize) -> bool {
-    (at(board, to) == 0) & ((stones == 3) | adjoin(from, to))
+pub fn goes(position: &Position, from: usize, to: usize) -> bool {
+    (position.board.at(to) == 0) & ((position.m == 3) | adjoin(from, to))
 }
 
-// The tally with the plies of one move: one, or one for each removal where it closes a mill that has any.
-fn with_move(
-    tally: Tally,
-    board: &[u8; 24],
-    rings: u8,
-    mover: u8,
-    removals: u16,
-    from: usize,
-    to: usize,
-) -> Tally {
-    if !goes(board, mover, from, to) {
-        return tally;
+impl Tally {
+    // With the plies of one move: one, or one for each removal where it closes a mill that has any.
+    fn with_move(self, position: &Position, removals: u16, from: usize, to: usize) -> Tally {
+        if !goes(position, from, to) {
+            return self;
+        }
+        let takes = position.board.moved(from, to).in_mill(to) & (0 < removals);
+        let plies = if takes { removals } else { 1 };
+        Tally {
+            plies: self.plies.wrapping_add(plies),
+            taking: self.taking | takes,
+        }
     }
-    let closes = in_mill(&moved(board, from, to), rings, to);
-    if closes & (0 < removals) {
-        return Tally {
-            plies: add(tally.plies, removals),
-            taking: true,
+
+    // All plies of a position.
+    fn of(position: &Position, removals: u16) -> Tally {
+        let points = position.board.points();
+        let mut tally = Tally::default();
+        for from in 0..points {
+            if position.board.at(from) == 1 {
+                for to in 0..points {
+                    tally = tally.with_move(position, removals, from, to);
+                }
+            }
+        }
+        tally
+    }
+
+    // 0 for a mover with no ply, 1 where a ply leaves two stones, else open.
+    fn first_entry(&self, opponent: u8) -> u16 {
+        if self.plies == 0 {
+            return 0;
+        }
+        if self.taking & (opponent == 3) {
+            return 1;
+        }
+        OPEN
+    }
+}
+
+// Writes at each place to be filled its first entry, and beside it how many plies the position has. By place, since the check does not cover both
+// buffers in one `zip` with the positions.
+pub fn open(filling: &Filling, entries: &mut [u16], counts: &mut [u16]) {
+    for (place, position) in (0..entries.len()).zip(filling.tables.positions()) {
+        let (Some(entry), Some(count)) = (entries.get_mut(place), counts.get_mut(place)) else {
+            return;
         };
-    }
-    Tally {
-        plies: add(tally.plies, 1),
-        taking: tally.taking,
-    }
-}
-
-// The tally with the plies of the stone at a point, if it is the mover's.
-fn with_moves(
-    tally: Tally,
-    board: &[u8; 24],
-    rings: u8,
-    mover: u8,
-    removals: u16,
-    from: usize,
-) -> Tally {
-    if at(board, from) != 1 {
-        return tally;
-    }
-    let points = 8 * rings as usize;
-    let mut sum = tally;
-    let mut to = 0;
-    while to < points {
-        sum = with_move(sum, board, rings, mover, removals, from, to);
-        to += 1;
-    }
-    sum
-}
-
-// All plies of a board.
-fn tally_of(board: &[u8; 24], rings: u8, mover: u8, removals: u16) -> Tally {
-    let points = 8 * rings as usize;
-    let mut sum = Tally {
-        plies: 0,
-        taking: false,
-    };
-    let mut from = 0;
-    while from < points {
-        sum = with_moves(sum, board, rings, mover, removals, from);
-        from += 1;
-    }
-    sum
-}
-
-// 0 for a mover with no ply, 1 where a ply leaves two stones, else open.
-fn first_entry(tally: Tally, opponent: u8) -> u16 {
-    if tally.plies == 0 {
-        return 0;
-    }
-    if tally.taking & (opponent == 3) {
-        return 1;
-    }
-    OPEN
-}
-
-fn put(buffer: &mut [u16], place: usize, n: u16) {
-    if place < buffer.len() {
-        buffer[place] = n;
-    }
-}
-
-fn open_at(
-    filled: &[usize; 101],
-    edition: u8,
-    position: Position,
-    place: usize,
-    entries: &mut [u16],
-    counts: &mut [u16],
-) {
-    if start_of(filled, position.m, position.o) == NO_TABLE {
-        return;
-    }
-    let board = position.board;
-    let choices = removals(&board, position.rings, edition, position.o);
-    let tally = tally_of(&board, position.rings, position.m, choices);
-    put(entries, place, first_entry(tally, position.o));
-    put(counts, place, tally.plies);
-}
-
-// Writes at each place to be filled its first entry, and beside it how many plies the position has.
-pub fn open(
-    starts: &[usize; 101],
-    filled: &[usize; 101],
-    rings: u8,
-    edition: u8,
-    entries: &mut [u16],
-    counts: &mut [u16],
-) {
-    let mut position = first_position(starts, rings);
-    let mut place = 0;
-    while place < entries.len() {
-        open_at(filled, edition, position, place, entries, counts);
-        position = next_position(starts, position);
-        place += 1;
+        if filling.filled.start(position.m, position.o).is_some() {
+            let tally = Tally::of(&position, removals(&position, filling.edition));
+            *entry = tally.first_entry(position.o);
+            *count = tally.plies;
+        }
     }
 }

@@ -1,9 +1,0 @@
--- `second_order::points::stones` is safe and ends. Assumes nothing.
-use Rattle.std.proofs.Common.{◌-◌, ◌≤◌}
-use Rattle.second_order.proofs.points.stones.Given as goal
-
-abbrev pub invariant-loop-p : goal.invariant-loop-p
-invariant-loop-p l = l.p ≤ 24
-
-abbrev pub decreases-loop-p : goal.decreases-loop-p
-decreases-loop-p l = 24 - l.p
