@@ -1,9 +1,32 @@
 -- An answer and a target at exit, by whether the call was turned back. Assumes nothing.
 use mathlib.Core.Path.{◌≡◌, refl, ap, ◌∙◌}
-use mathlib.Core.List.{List}
+use mathlib.Core.List.{List, [], ◌∷◌}
 use Prim.Native.Nat.{ℕ, zero, suc}
 use native.Mathlib.Omega.{arith}
-use Rattle.answers.specs.Answers.{accepted, refused, number, answer, target}
+use Rattle.std.specs.Prelude.{Result, Ok, Err, IsErrAnd}
+use Rattle.std.specs.Result.{ResultUnwrapsOrElse}
+use Rattle.std.proofs.lemmas.Result.{err_from_is_err_and}
+use Rattle.answers.specs.declared.Refusal.{Refusal}
+use Rattle.answers.specs.Answers.{accepted, refused, number, value, answer, target, refusal_number, met, answered}
+
+-- no refusal has the number 0
+pub refusal_some : (e : Refusal) → refusal_number e ≡ 0 → ⊥
+refusal_some Refusal.Rings z = absurd (omega (arith, z))
+refusal_some Refusal.BoardLength z = absurd (omega (arith, z))
+refusal_some Refusal.BoardValue z = absurd (omega (arith, z))
+refusal_some Refusal.Counts z = absurd (omega (arith, z))
+refusal_some Refusal.Rank z = absurd (omega (arith, z))
+refusal_some Refusal.InexactLength z = absurd (omega (arith, z))
+refusal_some Refusal.ShortTarget z = absurd (omega (arith, z))
+refusal_some Refusal.Move z = absurd (omega (arith, z))
+refusal_some Refusal.Blocked z = absurd (omega (arith, z))
+refusal_some Refusal.Limit z = absurd (omega (arith, z))
+refusal_some Refusal.Largest z = absurd (omega (arith, z))
+refusal_some Refusal.VoidRead z = absurd (omega (arith, z))
+refusal_some Refusal.TooDeep z = absurd (omega (arith, z))
+refusal_some Refusal.Frame z = absurd (omega (arith, z))
+refusal_some Refusal.Unreachable z = absurd (omega (arith, z))
+refusal_some Refusal.Edition z = absurd (omega (arith, z))
 
 -- turned back: n is the refusal r that the call meets
 pub answer_refused : (n r : ℕ) (vs : List ℕ) → (n ≡ 0 → ⊥) → n ≡ r → refused n ≡ answer r vs
@@ -20,6 +43,19 @@ answer_accepted r vs e = ap (λ (k : ℕ). answer k vs) e
 
 pub target_written : (r : ℕ) (new old : List ℕ) → 0 ≡ r → new ≡ target r new old
 target_written r new old e = ap (λ (k : ℕ). target k new old) e
+
+-- a refusal that `?` hands on is the one that was met
+pub handed_on : {A : Type 0} (r : Result A Refusal) (e : Refusal) → IsErrAnd r (λ (y : Refusal). y ≡ e) → r ≡ Err e
+handed_on r e p = let q = err_from_is_err_and r p in q.1 ∙ ap Err q.2
+
+-- the number of an answer is that of the refusal met, whatever its values; a lone value is zero after a refusal
+pub met_number : {A : Type 0} (values : A → List ℕ) (r : Result A Refusal) → met r ≡ number (answered values r)
+met_number values (Ok a) = refl
+met_number values (Err e) = refl
+
+pub lone_value : (r : Result ℕ Refusal) (v : ℕ) → ResultUnwrapsOrElse r (λ (x : ℕ). x ≡ 0) v → v ≡ value (answered (λ (n : ℕ). n ∷ []) r) 0
+lone_value (Ok a) v e = e
+lone_value (Err r) v e = e
 
 -- the two ways out of a call with a target: turned back, and written
 module _ (met : ℕ) (vs new old : List ℕ) where

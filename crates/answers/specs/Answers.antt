@@ -1,28 +1,9 @@
--- What a call answers: "A refusal returns its number and zero elsewhere. Buffers stay unchanged" (document 01, below its table). Each answer
--- enum is read as an Answer, case by case, and the promises are stated with that. Assumes nothing.
-use Rattle.std.specs.Prelude.{List, [], ◌∷◌, ℕ, zero, suc, get_or}
-use Rattle.answers.specs.declared.Ranked.{Ranked}
-use Rattle.answers.specs.declared.Unranked.{Unranked}
-use Rattle.answers.specs.declared.Listed.{Listed}
-use Rattle.answers.specs.declared.Made.{Made}
-use Rattle.answers.specs.declared.Represented.{Represented}
-use Rattle.answers.specs.declared.Looked.{Looked}
-use Rattle.answers.specs.declared.Chosen.{Chosen}
-use Rattle.answers.specs.declared.Solved.{Solved}
-use Rattle.answers.specs.declared.Checked.{Checked}
+-- What a call answers: "A refusal returns its number and zero elsewhere. Buffers stay unchanged" (document 01, below its table). Each call's
+-- Result is read as an Answer, and the promises are stated with that. Assumes nothing.
+use Rattle.std.specs.Prelude.{List, [], ◌∷◌, ℕ, zero, suc, get_or, Option, Some, None, Result, Ok, Err}
+use Rattle.answers.specs.declared.Refusal.{Refusal}
+use Rattle.answers.specs.declared.BestMove.{BestMove}
 use Rattle.answers.specs.declared.Frame.{Frame}
-use Rattle.answers.specs.declared.Framed.{Framed}
-use Rattle.answers.specs.declared.Ranked.TheVariants as Ranked
-use Rattle.answers.specs.declared.Unranked.TheVariants as Unranked
-use Rattle.answers.specs.declared.Listed.TheVariants as Listed
-use Rattle.answers.specs.declared.Made.TheVariants as Made
-use Rattle.answers.specs.declared.Represented.TheVariants as Represented
-use Rattle.answers.specs.declared.Looked.TheVariants as Looked
-use Rattle.answers.specs.declared.Chosen.TheVariants as Chosen
-use Rattle.answers.specs.declared.Solved.TheVariants as Solved
-use Rattle.answers.specs.declared.Checked.TheVariants as Checked
-use Rattle.answers.specs.declared.Frame.TheVariants as Frame
-use Rattle.answers.specs.declared.Framed.TheVariants as Framed
 
 pub data Answer : Type 0 where
   accepted : (values : List ℕ) → Answer
@@ -48,58 +29,79 @@ abbrev pub target : ℕ → List ℕ → List ℕ → List ℕ
 target zero new old = new
 target (suc n) new old = old
 
--- the answers of each call, in the order of its enum's cases: the rank of a board,
-abbrev pub ranked : Ranked → Answer
-ranked (Ranked.Rank r) = accepted (r ∷ [])
-ranked (Ranked.Refused n) = refused n
+-- document 01's number of each refusal, and document 02's
+abbrev pub refusal_number : Refusal → ℕ
+refusal_number Refusal.Rings = 1
+refusal_number Refusal.BoardLength = 2
+refusal_number Refusal.BoardValue = 3
+refusal_number Refusal.Counts = 4
+refusal_number Refusal.Rank = 5
+refusal_number Refusal.InexactLength = 6
+refusal_number Refusal.ShortTarget = 7
+refusal_number Refusal.Move = 8
+refusal_number Refusal.Blocked = 9
+refusal_number Refusal.Limit = 10
+refusal_number Refusal.Largest = 11
+refusal_number Refusal.VoidRead = 12
+refusal_number Refusal.TooDeep = 13
+refusal_number Refusal.Frame = 14
+refusal_number Refusal.Unreachable = 15
+refusal_number Refusal.Edition = 20
+
+-- the number of the refusal that was met, 0 for none
+abbrev pub met : {A : Type 0} → Result A Refusal → ℕ
+met (Ok a) = 0
+met (Err e) = refusal_number e
+
+-- a call's answer, by the values of its result
+abbrev pub answered : {A : Type 0} → (A → List ℕ) → Result A Refusal → Answer
+answered values (Ok a) = accepted (values a)
+answered values (Err e) = refused (refusal_number e)
+
+-- those of each call: the rank of a board,
+abbrev pub ranked : Result ℕ Refusal → Answer
+ranked r = answered (λ (n : ℕ). n ∷ []) r
 
 -- a board written,
-abbrev pub unranked : Unranked → Answer
-unranked Unranked.Written = accepted []
-unranked (Unranked.Refused n) = refused n
+abbrev pub unranked : Result (Unit {0}) Refusal → Answer
+unranked r = answered (λ (u : Unit {0}). []) r
 
 -- how many moves were listed,
-abbrev pub listed : Listed → Answer
-listed (Listed.Count n) = accepted (n ∷ [])
-listed (Listed.Refused n) = refused n
+abbrev pub listed : Result ℕ Refusal → Answer
+listed r = answered (λ (n : ℕ). n ∷ []) r
 
 -- the board after a move written,
-abbrev pub made : Made → Answer
-made Made.Written = accepted []
-made (Made.Refused n) = refused n
+abbrev pub made : Result (Unit {0}) Refusal → Answer
+made r = answered (λ (u : Unit {0}). []) r
 
 -- the rank of a representative,
-abbrev pub represented : Represented → Answer
-represented (Represented.Rank r) = accepted (r ∷ [])
-represented (Represented.Refused n) = refused n
+abbrev pub represented : Result ℕ Refusal → Answer
+represented r = answered (λ (n : ℕ). n ∷ []) r
 
 -- an entry,
-abbrev pub looked : Looked → Answer
-looked (Looked.Entry e) = accepted (e ∷ [])
-looked (Looked.Refused n) = refused n
+abbrev pub looked : Result ℕ Refusal → Answer
+looked r = answered (λ (e : ℕ). e ∷ []) r
 
 -- a move with the entry of the successor that it leads to,
-abbrev pub chosen : Chosen → Answer
-chosen (Chosen.Move number entry) = accepted (number ∷ entry ∷ [])
-chosen (Chosen.Refused n) = refused n
+abbrev pub chosen : Result BestMove Refusal → Answer
+chosen r = answered (λ (b : BestMove). b.number ∷ b.entry ∷ []) r
 
 -- tables filled,
-abbrev pub solved : Solved → Answer
-solved Solved.Filled = accepted []
-solved (Solved.Refused n) = refused n
+abbrev pub solved : Result (Unit {0}) Refusal → Answer
+solved r = answered (λ (u : Unit {0}). []) r
 
 -- whether a tablebase passed, 1 or 0, and the first index that fails, 0 where it passed,
-abbrev pub checked : Checked → Answer
-checked Checked.Passed = accepted (1 ∷ 0 ∷ [])
-checked (Checked.Fails index) = accepted (0 ∷ index ∷ [])
-checked (Checked.Refused n) = refused n
+abbrev pub passed_or_fails : Option ℕ → List ℕ
+passed_or_fails None = 1 ∷ 0 ∷ []
+passed_or_fails (Some index) = 0 ∷ index ∷ []
+
+abbrev pub checked : Result (Option ℕ) Refusal → Answer
+checked r = answered passed_or_fails r
 
 -- the position of a frame: its rings, the points of the side to move, those of the other side,
-abbrev pub frame_read : Frame → Answer
-frame_read (Frame.Position rings mover opponent) = accepted (rings ∷ mover ∷ opponent ∷ [])
-frame_read (Frame.Refused n) = refused n
+abbrev pub frame_read : Result Frame Refusal → Answer
+frame_read r = answered (λ (f : Frame). f.rings ∷ f.mover ∷ f.opponent ∷ []) r
 
 -- how many characters were written
-abbrev pub frame_written : Framed → Answer
-frame_written (Framed.Length n) = accepted (n ∷ [])
-frame_written (Framed.Refused n) = refused n
+abbrev pub frame_written : Result ℕ Refusal → Answer
+frame_written r = answered (λ (n : ℕ). n ∷ []) r

@@ -21,38 +21,29 @@ pub struct Stone {
 // Whether a move leads to a position whose entry is asked for.
 fn leads(
     tablebase: &[u16],
-    binomials: &[u32; 625],
     rings: usize,
     question: Question,
     position: board::Position,
     number: usize,
 ) -> bool
-    requires probing { Probing binomials.now (length tablebase.now) rings question.starts position }
+    requires probing { Probing (length tablebase.now) rings question.starts position }
     requires makeable { Makeable rings (board_of (8 * rings) position) number }
     ensures { result ≡ entry_asked tablebase.now question (board_of (8 * rings) position) (after_ply (board_of (8 * rings) position) number) }
 {
-    let entry = probing::entry_after_move(
-        tablebase,
-        binomials,
-        rings,
-        question.starts,
-        position,
-        number,
-    );
+    let entry = probing::entry_after_move(tablebase, rings, question.starts, position, number);
     asked(question, entry)
 }
 
 // Whether one of the moves of a slide, given by what they remove, leads to such a position.
 pub fn some_removal(
     tablebase: &[u16],
-    binomials: &[u32; 625],
     rings: usize,
     question: Question,
     position: board::Position,
     slide: usize,
     removals: u32,
 ) -> bool
-    requires probing { Probing binomials.now (length tablebase.now) rings question.starts position }
+    requires probing { Probing (length tablebase.now) rings question.starts position }
     requires removing { Removing rings position slide removals }
     ensures { result ≡ any (λ p. entry_asked tablebase.now question (board_of (8 * rings) position)
         (after_ply (board_of (8 * rings) position) (slide + p))) (elements 32 removals) }
@@ -60,14 +51,7 @@ pub fn some_removal(
     let mut left = removals;
     while left != 0 {
         let removed = sets::take_lowest(left);
-        if leads(
-            tablebase,
-            binomials,
-            rings,
-            question,
-            position,
-            slide + removed.lowest,
-        ) {
+        if leads(tablebase, rings, question, position, slide + removed.lowest) {
             return true;
         }
         left = removed.rest;
@@ -78,14 +62,13 @@ pub fn some_removal(
 // Whether some move of one stone under the question's edition, to the set of its destinations, leads to such a position.
 pub fn some_slide(
     tablebase: &[u16],
-    binomials: &[u32; 625],
     masks: &[u32; 72],
     rings: usize,
     question: Question,
     position: board::Position,
     stone: Stone,
 ) -> bool
-    requires probing { Probing binomials.now (length tablebase.now) rings question.starts position }
+    requires probing { Probing (length tablebase.now) rings question.starts position }
     requires movable { Movable rings masks.now position stone }
     ensures { result ≡ any (λ m. entry_asked tablebase.now question (board_of (8 * rings) position)
         (after_ply (board_of (8 * rings) position) m))
@@ -105,7 +88,6 @@ pub fn some_slide(
         );
         if some_removal(
             tablebase,
-            binomials,
             rings,
             question,
             position,

@@ -51,40 +51,31 @@ fn better(first: Best, second: Best) -> Best
 // A move with the entry that it leads to.
 fn with_entry(
     tablebase: &[u16],
-    binomials: &[u32; 625],
     rings: usize,
     starts: Starts,
     position: board::Position,
     number: u16,
 ) -> Best
-    requires probing { Probing binomials.now (length tablebase.now) rings starts position }
+    requires probing { Probing (length tablebase.now) rings starts position }
     requires makeable { Makeable rings (board_of (8 * rings) position) number }
     ensures { (result.number ≡ number) × (result.entry ≡ entry_by tablebase.now starts.same starts.fewer (board_of
         (8 * rings) position) number) }
 {
     Best {
         number: number,
-        entry: probing::entry_after_move(
-            tablebase,
-            binomials,
-            rings,
-            starts,
-            position,
-            number as usize,
-        ),
+        entry: probing::entry_after_move(tablebase, rings, starts, position, number as usize),
     }
 }
 
 // The best of some moves of a position, given as a list.
 fn best_of(
     tablebase: &[u16],
-    binomials: &[u32; 625],
     rings: usize,
     starts: Starts,
     position: board::Position,
     moves: &[u16],
 ) -> Best
-    requires probing { Probing binomials.now (length tablebase.now) rings starts position }
+    requires probing { Probing (length tablebase.now) rings starts position }
     requires candidates { Candidates tablebase.now rings starts position moves.now }
     ensures number { result.number ≡ best_move (λ m. entry_by tablebase.now starts.same starts.fewer (board_of (8 * rings) position) m)
         moves.now }
@@ -92,12 +83,10 @@ fn best_of(
         (8 * rings) position) m)
         moves.now) }
 {
-    let mut best = with_entry(tablebase, binomials, rings, starts, position, moves[0]);
-    let mut i = 1;
-    while i < moves.len() {
-        let next = with_entry(tablebase, binomials, rings, starts, position, moves[i]);
+    let mut best = with_entry(tablebase, rings, starts, position, moves[0]);
+    for number in &moves[1..] {
+        let next = with_entry(tablebase, rings, starts, position, *number);
         best = better(best, next);
-        i += 1;
     }
     best
 }
@@ -105,14 +94,13 @@ fn best_of(
 // The best move under an edition of a position that has a move and no successor whose entry is void.
 pub fn best_move(
     tablebase: &[u16],
-    binomials: &[u32; 625],
     masks: &[u32; 72],
     rings: usize,
     edition: u8,
     starts: Starts,
     position: board::Position,
 ) -> Best
-    requires none_void { NoneVoid (removable edition) tablebase.now binomials.now rings starts position }
+    requires none_void { NoneVoid (removable edition) tablebase.now rings starts position }
     requires choosing { Choosing rings masks.now position }
     ensures number { result.number ≡ best_move (λ m. entry_by tablebase.now starts.same starts.fewer (board_of (8 * rings) position) m)
         (listed_moves (removable edition) rings (board_of (8 * rings) position)) }
@@ -124,12 +112,5 @@ pub fn best_move(
     let count = counts.captures + counts.others;
     let mut list = [0u16; MOVES_MAX];
     listing::list_moves(rings, edition, masks, position, counts.captures, &mut list);
-    best_of(
-        tablebase,
-        binomials,
-        rings,
-        starts,
-        position,
-        &list[..count],
-    )
+    best_of(tablebase, rings, starts, position, &list[..count])
 }

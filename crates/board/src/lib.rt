@@ -17,10 +17,8 @@ fn set_of(board: &[u8], v: u8) -> u32
     ensures { result ≡ set_of v board.now }
 {
     let mut s: u32 = 0;
-    let mut i = board.len();
-    while 0 < i {
-        i -= 1;
-        s = 2 * s + (board[i] == v) as u32;
+    for x in board.iter().rev() {
+        s = 2 * s + (*x == v) as u32;
     }
     s
 }
@@ -57,9 +55,7 @@ pub fn write_board(position: Position, target: &mut [u8])
     requires { length target.old ≤ 24 }
     ensures { target.new ≡ board_of (length target.old) position }
 {
-    let mut i = 0;
-    while i < target.len() {
-        target[i] = value_at(position, i);
-        i += 1;
+    for (i, x) in target.iter_mut().enumerate() {
+        *x = value_at(position, i);
     }
 }

@@ -4,9 +4,12 @@
 ghost use Rattle.std.specs.Prelude.{◌≡◌, ◌≤◌, length};
 ghost use Rattle.sets.specs.Sets.{members};
 ghost use Rattle.board.specs.Board.{count};
+ghost use Rattle.answers.specs.Answers.{met};
 ghost use Rattle.refusals.specs.Refusals.{refusal};
 ghost use Rattle.refusals.specs.Conditions.{rings_wrong, edition_wrong, value_wrong, counts_wrong};
 ghost use Rattle.refusals.specs.Conditions.{board_picks, edition_picks, ruled_picks, stones_picks, counts_picks, target_picks};
+
+use answers::Refusal;
 
 // Rings other than 1, 2 or 3.
 pub fn rings_wrong(rings: u8) -> bool
@@ -26,13 +29,7 @@ fn edition_wrong(edition: u8) -> bool
 fn value_wrong(board: &[u8]) -> bool
     ensures { result ≡ value_wrong board.now }
 {
-    let mut found = false;
-    let mut i = board.len();
-    while 0 < i {
-        i -= 1;
-        found = (2 < board[i]) | found;
-    }
-    found
+    board.iter().any(|&x| 2 < x)
 }
 
 // A count outside 3 to 9, or a sum above the points.
@@ -59,87 +56,78 @@ fn stones_wrong(points: u32, board: &[u8]) -> bool
     sides_wrong(points, position.mover, position.opponent)
 }
 
-// The first refusal that rings and a board meet, or 0.
-pub fn of_board(rings: u8, board: &[u8]) -> u8
-    ensures { result ≡ refusal (board_picks rings board.now) }
+// The first refusal that rings and a board meet.
+pub fn of_board(rings: u8, board: &[u8]) -> Result<(), Refusal>
+    ensures { met result ≡ refusal (board_picks rings board.now) }
 {
     if rings_wrong(rings) {
-        return refusals::RINGS;
+        return Err(Refusal::Rings);
     }
     let points = 8 * rings;
     if board.len() != points as usize {
-        return refusals::BOARD_LENGTH;
+        return Err(Refusal::BoardLength);
     }
     if value_wrong(board) {
-        return refusals::BOARD_VALUE;
+        return Err(Refusal::BoardValue);
     }
     if stones_wrong(points as u32, board) {
-        return refusals::COUNTS;
+        return Err(Refusal::Counts);
     }
-    0
+    Ok(())
 }
 
-// The first refusal that rings and an edition meet, or 0.
-pub fn of_edition(rings: u8, edition: u8) -> u8
-    ensures { result ≡ refusal (edition_picks rings edition) }
+// The first refusal that rings and an edition meet.
+pub fn of_edition(rings: u8, edition: u8) -> Result<(), Refusal>
+    ensures { met result ≡ refusal (edition_picks rings edition) }
 {
     if rings_wrong(rings) {
-        return refusals::RINGS;
+        return Err(Refusal::Rings);
     }
     if edition_wrong(edition) {
-        return refusals::EDITION;
+        return Err(Refusal::Edition);
     }
-    0
+    Ok(())
 }
 
-// The first refusal that rings, an edition and a board meet, or 0.
-pub fn of_ruled(rings: u8, edition: u8, board: &[u8]) -> u8
-    ensures { result ≡ refusal (ruled_picks rings edition board.now) }
+// The first refusal that rings, an edition and a board meet.
+pub fn of_ruled(rings: u8, edition: u8, board: &[u8]) -> Result<(), Refusal>
+    ensures { met result ≡ refusal (ruled_picks rings edition board.now) }
 {
-    let refusal = of_edition(rings, edition);
-    if refusal != 0 {
-        return refusal;
-    }
+    of_edition(rings, edition)?;
     of_board(rings, board)
 }
 
-// The first refusal that rings, an edition, a board and a target of so many bytes meet, or 0.
-pub fn of_target(rings: u8, edition: u8, board: &[u8], room: usize) -> u8
-    ensures { result ≡ refusal (target_picks rings edition board.now room) }
+// The first refusal that rings, an edition, a board and a target of so many bytes meet.
+pub fn of_target(rings: u8, edition: u8, board: &[u8], room: usize) -> Result<(), Refusal>
+    ensures { met result ≡ refusal (target_picks rings edition board.now room) }
 {
-    let refusal = of_ruled(rings, edition, board);
-    if refusal != 0 {
-        return refusal;
-    }
+    of_ruled(rings, edition, board)?;
     if room != board.len() {
-        return refusals::TARGET_LENGTH;
+        return Err(Refusal::InexactLength);
     }
-    0
+    Ok(())
 }
 
-// The first refusal that rings and counts meet, or 0.
-pub fn of_stones(rings: u8, mover: u8, opponent: u8) -> u8
-    ensures { result ≡ refusal (stones_picks rings mover opponent) }
+// The first refusal that rings and counts meet.
+pub fn of_stones(rings: u8, mover: u8, opponent: u8) -> Result<(), Refusal>
+    ensures { met result ≡ refusal (stones_picks rings mover opponent) }
 {
     if rings_wrong(rings) {
-        return refusals::RINGS;
+        return Err(Refusal::Rings);
     }
     if counts_wrong(8 * rings as u32, mover as u32, opponent as u32) {
-        return refusals::COUNTS;
+        return Err(Refusal::Counts);
     }
-    0
+    Ok(())
 }
 
-// The first refusal that rings, counts and a target of so many bytes meet, or 0.
-pub fn of_counts(rings: u8, mover: u8, opponent: u8, room: usize) -> u8
-    ensures { result ≡ refusal (counts_picks rings mover opponent room) }
+// The first refusal that rings, counts and a target of so many bytes meet.
+pub fn of_counts(rings: u8, mover: u8, opponent: u8, room: usize) -> Result<(), Refusal>
+    ensures { met result ≡ refusal (counts_picks rings mover opponent room) }
 {
-    let refusal = of_stones(rings, mover, opponent);
-    if refusal != 0 {
-        return refusal;
-    }
+    of_stones(rings, mover, opponent)?;
     if room != 8 * rings as usize {
-        return refusals::TARGET_LENGTH;
+        return Err(Refusal::InexactLength);
     }
-    0
+    Ok(())
 }

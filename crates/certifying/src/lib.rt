@@ -20,7 +20,6 @@ use tables::Starts;
 // is blocked.
 fn depth_right(
     tablebase: &[u16],
-    binomials: &[u32; 625],
     masks: &[u32; 72],
     rings: usize,
     edition: u8,
@@ -28,14 +27,12 @@ fn depth_right(
     depth: u32,
     position: board::Position,
 ) -> bool
-    requires probing { Probing binomials.now (length tablebase.now) rings starts position }
+    requires probing { Probing (length tablebase.now) rings starts position }
     requires masks { Masks rings masks.now × (depth < void_entry) }
     ensures { result ≡ right depth (map (λ b. probe tablebase.now starts.same starts.fewer (count 2 (board_of (8 * rings) position)) b)
         (successors (removable edition) rings (board_of (8 * rings) position))) }
 {
-    if !judging::hits(
-        tablebase, binomials, masks, rings, edition, starts, depth, position,
-    ) {
+    if !judging::hits(tablebase, masks, rings, edition, starts, depth, position) {
         return false;
     }
     if depth < 2 {
@@ -50,7 +47,7 @@ fn depth_right(
             low: NOT_WON,
             high: high,
         };
-        return !some_successor(tablebase, binomials, masks, rings, quicker, position);
+        return !some_successor(tablebase, masks, rings, quicker, position);
     }
     let low = depth - 1;
     let slowest = Question {
@@ -59,13 +56,12 @@ fn depth_right(
         low: low,
         high: depth,
     };
-    some_successor(tablebase, binomials, masks, rings, slowest, position)
+    some_successor(tablebase, masks, rings, slowest, position)
 }
 
 // Whether an entry is right at a position.
 pub fn right(
     tablebase: &[u16],
-    binomials: &[u32; 625],
     masks: &[u32; 72],
     rings: usize,
     edition: u8,
@@ -73,22 +69,19 @@ pub fn right(
     entry: u16,
     position: board::Position,
 ) -> bool
-    requires probing { Probing binomials.now (length tablebase.now) rings starts position }
+    requires probing { Probing (length tablebase.now) rings starts position }
     requires masks { Masks rings masks.now }
     ensures { result ≡ right entry (map (λ b. probe tablebase.now starts.same starts.fewer (count 2 (board_of (8 * rings) position)) b)
         (successors (removable edition) rings (board_of (8 * rings) position))) }
 {
     if entry == DRAW {
-        return !judging::decided(
-            tablebase, binomials, masks, rings, edition, starts, position,
-        );
+        return !judging::decided(tablebase, masks, rings, edition, starts, position);
     }
     if entry == VOID {
         return false;
     }
     depth_right(
         tablebase,
-        binomials,
         masks,
         rings,
         edition,

@@ -6,7 +6,7 @@ ghost use Rattle.lists.specs.Lists.{each};
 ghost use Rattle.ranking.specs.Unrank.{unrank};
 ghost use Rattle.layout.specs.Layout.{row, table};
 ghost use Rattle.rules.specs.Ply.{removable};
-ghost use Rattle.probing.specs.Inner.Conditions.{Lent};
+ghost use Rattle.masks.specs.Inner.Masks.{Masks};
 ghost use Rattle.certificate.specs.Certificate.{boards_of, boards, entry_right};
 ghost use Rattle.checking.specs.Inner.Checking.{Whole, TableOf, StandsIn, Tested};
 
@@ -21,24 +21,16 @@ pub struct Kind {
     pub k: usize,
 }
 
-// How many entries are right before the first that is not, and whether all are.
-#[derive(Clone, Copy)]
-pub struct Passed {
-    pub count: usize,
-    pub all: bool,
-}
-
 // Whether the entry of the position that a cursor stands at is right. The table of its successors without a removal starts at `same`.
 fn place_right(
     tablebase: &[u16],
-    binomials: &[u32; 625],
     masks: &[u32; 72],
     kind: Kind,
     table: Table,
     same: usize,
     at: Cursor,
 ) -> bool
-    requires lent { Lent kind.rings binomials.now masks.now }
+    requires masks { Masks kind.rings masks.now }
     requires whole { Whole (length tablebase.now) kind × TableOf kind table.mover table.opponent table same × StandsIn kind table at }
     ensures { result ≡ entry_right (removable kind.edition) kind.rings kind.k tablebase.now
         (unrank (8 * kind.rings) table.mover table.opponent at.rank) }
@@ -48,7 +40,6 @@ fn place_right(
     let entry = tablebase[own.start + at.rank];
     certifying::right(
         tablebase,
-        binomials,
         masks,
         kind.rings,
         kind.edition,
@@ -61,97 +52,64 @@ fn place_right(
     )
 }
 
-// The entries of table (m, o), by rising rank.
+// The entries of table (m, o), by rising rank: how many there are, if all are right, else how many are right before the first that is not.
 fn check_table(
     tablebase: &[u16],
-    binomials: &[u32; 625],
     masks: &[u32; 72],
     kind: Kind,
     m: usize,
     o: usize,
-) -> Passed
-    requires lent { Lent kind.rings binomials.now masks.now }
+) -> Result<usize, usize>
+    requires masks { Masks kind.rings masks.now }
     requires whole { Whole (length tablebase.now) kind × (3 ≤ m) × (m ≤ kind.k) × (3 ≤ o) × (o ≤ kind.k) }
     ensures { Tested (entry_right (removable kind.edition) kind.rings kind.k tablebase.now)
         (boards_of (8 * kind.rings) (table m o)) result }
 {
     let points = 8 * kind.rings;
-    let table = tables::table_of(binomials, points, kind.k, m, o);
-    let same = layout::start(binomials, points, kind.k, o, m);
+    let table = tables::table_of(points, kind.k, m, o);
+    let same = layout::start(points, kind.k, o, m);
     let own = table.own;
     let size = own.end - own.start;
     let mut at = seeking::nowhere(size);
-    let mut r = 0;
-    while r < size {
-        at = seeking::seek(binomials, kind.rings, m, o, at, r);
-        if !place_right(tablebase, binomials, masks, kind, table, same, at) {
-            return Passed {
-                count: r,
-                all: false,
-            };
+    for r in 0..size {
+        at = seeking::seek(kind.rings, m, o, at, r);
+        if !place_right(tablebase, masks, kind, table, same, at) {
+            return Err(r);
         }
-        r += 1;
     }
-    Passed {
-        count: size,
-        all: true,
-    }
+    Ok(size)
 }
 
 // The tables (m, 3), (m, 4), .., (m, k).
-fn check_row(
-    tablebase: &[u16],
-    binomials: &[u32; 625],
-    masks: &[u32; 72],
-    kind: Kind,
-    m: usize,
-) -> Passed
-    requires lent { Lent kind.rings binomials.now masks.now }
+fn check_row(tablebase: &[u16], masks: &[u32; 72], kind: Kind, m: usize) -> Result<usize, usize>
+    requires masks { Masks kind.rings masks.now }
     requires whole { Whole (length tablebase.now) kind × (3 ≤ m) × (m ≤ kind.k) }
     ensures { Tested (entry_right (removable kind.edition) kind.rings kind.k tablebase.now)
         (each (λ t. boards_of (8 * kind.rings) t) (row kind.k m)) result }
 {
     let mut count: usize = 0;
-    let mut o = 3;
-    while o <= kind.k {
-        let part = check_table(tablebase, binomials, masks, kind, m, o);
-        count += part.count;
-        if !part.all {
-            return Passed {
-                count: count,
-                all: false,
-            };
+    for o in 3..=kind.k {
+        match check_table(tablebase, masks, kind, m, o) {
+            Ok(n) => count += n,
+            Err(n) => return Err(count + n),
         }
-        o += 1;
     }
-    Passed {
-        count: count,
-        all: true,
-    }
+    Ok(count)
 }
 
 // The whole tablebase, row by row.
-pub fn check_all(tablebase: &[u16], binomials: &[u32; 625], masks: &[u32; 72], kind: Kind) -> Passed
-    requires lent { Lent kind.rings binomials.now masks.now }
+pub fn check_all(tablebase: &[u16], masks: &[u32; 72], kind: Kind) -> Result<usize, usize>
+    requires masks { Masks kind.rings masks.now }
     requires whole { Whole (length tablebase.now) kind }
     ensures { Tested (entry_right (removable kind.edition) kind.rings kind.k tablebase.now)
         (boards (8 * kind.rings) kind.k) result }
 {
     let mut passed: usize = 0;
-    let mut m = 3;
-    while m <= kind.k {
-        let part = check_row(tablebase, binomials, masks, kind, m);
-        passed += part.count;
-        if !part.all {
-            return Passed {
-                count: passed,
-                all: false,
-            };
+    for m in 3..=kind.k {
+        match check_row(tablebase, masks, kind, m) {
+            Ok(n) => passed += n,
+            Err(n) => return Err(passed + n),
         }
-        m += 1;
     }
-    Passed {
-        count: passed,
-        all: true,
-    }
+    Ok(passed)
 }

@@ -4,7 +4,7 @@
 ghost use Rattle.std.specs.Prelude.{◌≡◌, ◌+◌, ◌-◌, ◌*◌, ◌<◌, length};
 ghost use Rattle.sizes.specs.Size.{size};
 ghost use Rattle.rules.specs.Ply.{removable};
-ghost use Rattle.probing.specs.Inner.Conditions.{Lent};
+ghost use Rattle.masks.specs.Inner.Masks.{Masks};
 ghost use Rattle.deciding.specs.Inner.Fits.{Fits};
 ghost use Rattle.deciding.specs.Inner.Open.{is_open, open_decided, Found};
 
@@ -23,7 +23,6 @@ pub fn is_open(tablebase: &[u16], table: Table, r: usize) -> bool
 // Whether the position of rank r is open and decided by its successors.
 fn open_decided(
     tablebase: &[u16],
-    binomials: &[u32; 625],
     masks: &[u32; 72],
     rings: usize,
     edition: u8,
@@ -31,16 +30,15 @@ fn open_decided(
     same: usize,
     r: usize,
 ) -> bool
-    requires lent { Lent rings binomials.now masks.now }
+    requires masks { Masks rings masks.now }
     requires fits { Fits (length tablebase.now) rings table same × (r < size (8 * rings) table.mover table.opponent) }
     ensures { result ≡ open_decided (removable edition) rings table same tablebase.now r }
 {
     if is_open(tablebase, table, r) {
-        let position = ranking::unrank(binomials, 8 * rings, table.mover, table.opponent, r);
+        let position = ranking::unrank(8 * rings, table.mover, table.opponent, r);
         let lower = table.lower;
         return judging::decided(
             tablebase,
-            binomials,
             masks,
             rings,
             edition,
@@ -57,26 +55,23 @@ fn open_decided(
 // Whether some open position of a table is decided by its successors.
 pub fn some_decided(
     tablebase: &[u16],
-    binomials: &[u32; 625],
     masks: &[u32; 72],
     rings: usize,
     edition: u8,
     table: Table,
     same: usize,
 ) -> bool
-    requires lent { Lent rings binomials.now masks.now }
+    requires masks { Masks rings masks.now }
     requires fits { Fits (length tablebase.now) rings table same }
     ensures { Found (open_decided (removable edition) rings table same tablebase.now)
         (size (8 * rings) table.mover table.opponent) result }
 {
     let own = table.own;
     let size = own.end - own.start;
-    let mut r = 0;
-    while r < size {
-        if open_decided(tablebase, binomials, masks, rings, edition, table, same, r) {
+    for r in 0..size {
+        if open_decided(tablebase, masks, rings, edition, table, same, r) {
             return true;
         }
-        r += 1;
     }
     false
 }

@@ -1,7 +1,7 @@
 // The depths that stand in the tables of a pair: whether a level beyond the limit wrote any, and the least from a level on.
 #![tactic(auto)]
 
-ghost use Rattle.std.specs.Prelude.{◌≡◌, ◌<◌, min, length};
+ghost use Rattle.std.specs.Prelude.{◌≡◌, ◌<◌, length};
 ghost use Rattle.game.specs.Game.{void_entry};
 ghost use Rattle.pairs.specs.Inner.Pairs.{PartIn, InRoom};
 ghost use Rattle.depths.specs.Inner.Depths.{Held, WroteBeyond, PairHeld, pair_least};
@@ -34,16 +34,6 @@ pub fn beyond(tablebase: &[u16], tables: Tables, limit: u16, level: u16) -> bool
     holds(tablebase, second.own, level)
 }
 
-// The lower of two numbers.
-fn least(a: u16, b: u16) -> u16
-    ensures { result ≡ min a b }
-{
-    if a < b {
-        return a;
-    }
-    b
-}
-
 // Whether an entry stands in one of the two tables or their lower tables.
 fn pair_holds(tablebase: &[u16], tables: Tables, entry: u16) -> bool
     requires { InRoom (length tablebase.now) tables.first tables.second }
@@ -63,7 +53,8 @@ fn pair_holds(tablebase: &[u16], tables: Tables, entry: u16) -> bool
     holds(tablebase, second.lower, entry)
 }
 
-// The least depth from `low` on in both tables and their lower tables, void where there is none. Most often it is `low`, which is found sooner.
+// The least depth from `low` on in both tables and their lower tables, void where there is none: the next level is one more either way. Most often it
+// is `low`, which is found sooner.
 pub fn pair_least(tablebase: &[u16], tables: Tables, low: u16) -> u16
     requires { InRoom (length tablebase.now) tables.first tables.second × (low < void_entry) }
     ensures { result ≡ pair_least tables.first tables.second low tablebase.now }
@@ -77,5 +68,5 @@ pub fn pair_least(tablebase: &[u16], tables: Tables, low: u16) -> u16
     let b = finding::least_depth(tablebase, second.own, low);
     let c = finding::least_depth(tablebase, first.lower, low);
     let d = finding::least_depth(tablebase, second.lower, low);
-    least(least(a, b), least(c, d))
+    a.min(b).min(c.min(d))
 }

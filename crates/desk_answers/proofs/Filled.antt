@@ -1,5 +1,6 @@
 -- What a line shows, once the tablebase was filled by an accepted call: the rank of the board; on one ring always an entry, and that the true one; and the
 -- move that is best by the entries, or `-`, and that exactly for a blocked mover. Assumes nothing.
+use Rattle.std.specs.Prelude.{Some, None}
 use mathlib.Core.Path.{◌≡◌, refl, sym, ap, subst, ◌∙◌}
 use mathlib.Core.Bool.{Bool, true, false, cond}
 use mathlib.Core.List.{List, []}
@@ -31,7 +32,6 @@ use Rattle.rank_calls.proofs.Answered.{rank_answered}
 use Rattle.frame_calls.proofs.Answered.{frame_given}
 use Rattle.entry_calls.proofs.Answered.{entry_true, entry_answered, blocked_answered, best_answered}
 use Rattle.text.specs.Text.{refused_line}
-use Rattle.text.specs.declared.Field.TheVariants.{Number, Absent}
 use Rattle.fields.specs.Fields.{largest_count, desk_edition, field_of, entry_field, move_field}
 use Rattle.replies.specs.Replies.{board_line, answer_of}
 use Rattle.replies.proofs.Reading.{read_decides}
@@ -42,10 +42,10 @@ rank_shown rings b e = ap (λ (a : Answer). value a 0) (rank_answered rings b e)
 
 -- what is shown of a board on one ring
 pub record Shown (tablebase b : List ℕ) : Type 0 where
-  pub entry : entry_field tablebase 1 b ≡ Number (entry_at 1 largest_count tablebase b)
+  pub entry : entry_field tablebase 1 b ≡ Some (entry_at 1 largest_count tablebase b)
   pub entry_true : TrueEntry (removable desk_edition) 1 b (entry_at 1 largest_count tablebase b)
-  pub blocked : mover_blocked 1 b ≡ true → move_field tablebase 1 b ≡ Absent
-  pub free : mover_blocked 1 b ≡ false → move_field tablebase 1 b ≡ Number (best_listed (removable desk_edition) 1 largest_count tablebase b)
+  pub blocked : mover_blocked 1 b ≡ true → move_field tablebase 1 b ≡ None
+  pub free : mover_blocked 1 b ≡ false → move_field tablebase 1 b ≡ Some (best_listed (removable desk_edition) 1 largest_count tablebase b)
 
 module _ (limit : ℕ) (before after : List ℕ) (filled : FillCall 1 desk_edition largest_count limit before after (accepted [])) where
   true_entries : TrueEntries (removable desk_edition) 1 largest_count (AllTables 1 largest_count) after

@@ -37,7 +37,7 @@ pub record Starting (rings k : ℕ) (b : List ℕ) (same fewer : ℕ) : Type 0 w
   pub same_is : same ≡ start (8 * rings) k (count 2 b) (count 1 b)
   pub fewer_is : fewer ≡ lower_start (8 * rings) k (count 1 b) (count 2 b)
 
-module _ {lent : List ℕ} {n : ℕ} (rule : Rule) (takes : TakesOpponent rule) (rings k : ℕ) (p : Position) (w : InTablebase lent n rings k p)
+module _ {n : ℕ} (rule : Rule) (takes : TakesOpponent rule) (rings k : ℕ) (p : Position) (w : InTablebase n rings k p)
     (tablebase : List ℕ) where
   abbrev b : List ℕ
   b = board_of (8 * rings) p

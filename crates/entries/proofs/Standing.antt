@@ -16,7 +16,7 @@ use Rattle.outcomes.specs.Places.{entry_at}
 use Rattle.outcomes.proofs.Boards.{InTables, place_sum, entry_read}
 use Rattle.entries.specs.Inner.Whole.{InTablebase}
 
-module _ {lent : List ℕ} {n : ℕ} (rings k : ℕ) (p : Position) (w : InTablebase lent n rings k p) where
+module _ {n : ℕ} (rings k : ℕ) (p : Position) (w : InTablebase n rings k p) where
   abbrev board : List ℕ
   board = board_of (8 * rings) p
 

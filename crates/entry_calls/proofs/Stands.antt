@@ -7,7 +7,6 @@ use native.Mathlib.Omega.{arith}
 use lib.ListN.{length}
 use Rattle.board.specs.declared.Position.{Position}
 use Rattle.board.specs.Board.{count}
-use Rattle.sizes.specs.Inner.Binomial.{BinomialTable}
 use Rattle.rules.specs.Ply.{removable}
 use Rattle.outcomes.specs.Places.{entry_at, successor_entry, is_void}
 use Rattle.refusals.specs.Refusals.{refusal}
@@ -21,14 +20,13 @@ use Rattle.entries.specs.Inner.Choices.{choice_at}
 use Rattle.entry_calls.specs.LookupCall.{lookup_call}
 use Rattle.entry_calls.specs.BestMoveCall.{best_move_call}
 
-pub stands : {lent : List ℕ} {n : ℕ} (rings : ℕ) (b : List ℕ) (k : ℕ) (p : Position) → BinomialTable lent → AcceptedEntry rings b k n
-    → ShowsBoard rings b p → InTablebase lent n rings k p
-stands rings b k p binomials w shows =
+pub stands : {n : ℕ} (rings : ℕ) (b : List ℕ) (k : ℕ) (p : Position) → AcceptedEntry rings b k n
+    → ShowsBoard rings b p → InTablebase n rings k p
+stands rings b k p w shows =
     let t = w.in_tables.is_table in
     let m = ap (count 1) shows.back in
     let o = ap (count 2) shows.back in
     record {
-      binomials = binomials;
       placed = shows.placed;
       exact = w.tablebase.exact;
       largest = w.tablebase.largest_high;

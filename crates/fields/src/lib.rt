@@ -6,9 +6,6 @@ ghost use Rattle.answers.specs.Answers.{value};
 ghost use Rattle.rank_calls.specs.RankCall.{rank_call};
 ghost use Rattle.fields.specs.Fields.{entry_field, move_field};
 
-use answers::{Chosen, Looked, Ranked};
-use text::Field;
-
 // The largest count of the tablebase.
 pub const LARGEST_COUNT: u8 = 5;
 
@@ -26,37 +23,33 @@ fn is_absent(rings: u8) -> bool
 pub fn rank_of(rings: u8, board: &[u8]) -> u64
     ensures { result ≡ value (rank_call rings board.now) 0 }
 {
-    let answer = rank_calls::rank(rings, board);
-    let Ranked::Rank(rank) = answer else {
-        return 0;
-    };
-    rank
+    rank_calls::rank(rings, board).unwrap_or(0)
 }
 
 // The entry of a board on one ring, `-` where the call is turned back.
-pub fn entry_of(tablebase: &[u16], rings: u8, board: &[u8]) -> Field
+pub fn entry_of(tablebase: &[u16], rings: u8, board: &[u8]) -> Option<u64>
     ensures { result ≡ entry_field tablebase.now rings board.now }
 {
     if is_absent(rings) {
-        return Field::Absent;
+        return None;
     }
     let answer = entry_calls::lookup(rings, DESK_EDITION, board, LARGEST_COUNT, tablebase);
-    let Looked::Entry(entry) = answer else {
-        return Field::Absent;
+    let Ok(entry) = answer else {
+        return None;
     };
-    Field::Number(entry as u64)
+    Some(entry as u64)
 }
 
 // The best move of a board on one ring, `-` where the call is turned back.
-pub fn move_of(tablebase: &[u16], rings: u8, board: &[u8]) -> Field
+pub fn move_of(tablebase: &[u16], rings: u8, board: &[u8]) -> Option<u64>
     ensures { result ≡ move_field tablebase.now rings board.now }
 {
     if is_absent(rings) {
-        return Field::Absent;
+        return None;
     }
     let answer = entry_calls::best_move(rings, DESK_EDITION, board, LARGEST_COUNT, tablebase);
-    let Chosen::Move { number, entry: _ } = answer else {
-        return Field::Absent;
+    let Ok(best) = answer else {
+        return None;
     };
-    Field::Number(number as u64)
+    Some(best.number as u64)
 }

@@ -2,7 +2,7 @@
 ghost use Rattle.answers.specs.Answers.{solved};
 ghost use Rattle.fill_calls.specs.Fills.{FillPairCall};
 
-use answers::Solved;
+use answers::Refusal;
 use filling::Bounds;
 use solver::Counts;
 
@@ -16,36 +16,20 @@ pub fn fill_pair(
     k: u8,
     limit: u32,
     tablebase: &mut [u16],
-) -> Solved
+) -> Result<(), Refusal>
     ensures { FillPairCall rings edition mover opponent k limit tablebase.old tablebase.new (solved result) }
 {
-    let binomials = sizes::binomial_table();
-    let refusal = tablebase_refusals::of_pair(
-        &binomials,
-        rings,
-        edition,
-        mover,
-        opponent,
-        k,
-        limit,
-        tablebase.len(),
-    );
-    if refusal != 0 {
-        return Solved::Refused(refusal);
-    }
+    tablebase_refusals::of_pair(rings, edition, mover, opponent, k, limit, tablebase.len())?;
     let m = mover as usize;
     let o = opponent as usize;
-    if given::lower_void(tablebase, &binomials, rings as usize, k as usize, m, o) {
-        return Solved::Refused(refusals::VOID_READ);
+    if given::lower_void(tablebase, rings as usize, k as usize, m, o) {
+        return Err(Refusal::VoidRead);
     }
     let masks = masks::masks_of(rings as usize);
-    let images = imaging::ring_images();
     let limit = limit as u16;
-    if given::solve_given(
+    match given::solve_given(
         tablebase,
-        &binomials,
         &masks,
-        &images,
         Bounds {
             rings: rings as usize,
             edition: edition,
@@ -57,7 +41,7 @@ pub fn fill_pair(
             opponent: o,
         },
     ) {
-        return Solved::Refused(refusals::TOO_DEEP);
+        Ok(()) => Ok(()),
+        Err(_) => Err(Refusal::TooDeep),
     }
-    Solved::Filled
 }

@@ -4,3 +4,4 @@ pub mod NextLevel
 pub mod Answered
 pub mod PairStates
 pub mod PairClasses
+pub mod Deep

@@ -5,8 +5,8 @@
 
 ghost use Rattle.std.specs.Prelude.{◌<◌};
 ghost use Rattle.rules.specs.Ply.{removable};
-ghost use Rattle.probing.specs.Inner.Conditions.{Lent};
-ghost use Rattle.filling.specs.Inner.Solve.{PairSolving, PairFill};
+ghost use Rattle.masks.specs.Inner.Masks.{Masks};
+ghost use Rattle.filling.specs.Inner.Solve.{PairSolving, PairFill, deep_of};
 
 use classing::Maps;
 use pairs::Tables;
@@ -21,31 +21,31 @@ pub struct Bounds {
     pub limit: u16,
 }
 
-// Fills the tables of a pair, or answers that some position is too deep and leaves them void.
+// That some position ends beyond the limit.
+#[derive(Clone, Copy, Debug, PartialEq, Eq)]
+pub struct TooDeep;
+
+// Fills the tables of a pair. Where some position is too deep they are left void.
 pub fn solve_tables(
     tablebase: &mut [u16],
-    binomials: &[u32; 625],
     masks: &[u32; 72],
-    images: &[u8; 2048],
     bounds: Bounds,
     maps: usize,
     tables: Tables,
-) -> bool
-    requires lent { Lent bounds.rings binomials.now masks.now }
-    requires pair_solving { PairSolving images.now tablebase.old bounds maps tables }
+) -> Result<(), TooDeep>
+    requires masks { Masks bounds.rings masks.now }
+    requires pair_solving { PairSolving tablebase.old bounds maps tables }
     ensures { PairFill (removable bounds.edition) bounds.rings bounds.k tables.first.mover tables.first.opponent
         bounds.limit tablebase.old
-        tablebase.new result }
+        tablebase.new (deep_of result) }
 {
     pairs::fill_tables(tablebase, tables, DRAW);
-    pairs::sweep_pair(tablebase, binomials, masks, bounds.rings, tables);
+    pairs::sweep_pair(tablebase, masks, bounds.rings, tables);
     let mut level: u16 = 1;
     while level < VOID {
         pairs::level_pair(
             tablebase,
-            binomials,
             masks,
-            images,
             Maps {
                 rings: bounds.rings,
                 count: maps,
@@ -56,23 +56,16 @@ pub fn solve_tables(
         );
         if depths::beyond(tablebase, tables, bounds.limit, level) {
             pairs::fill_tables(tablebase, tables, VOID);
-            return true;
+            return Err(TooDeep);
         }
         level = 1 + depths::pair_least(tablebase, tables, level);
     }
     if VOID < level {
-        return false;
+        return Ok(());
     }
-    if pairs::pair_decided(
-        tablebase,
-        binomials,
-        masks,
-        bounds.rings,
-        bounds.edition,
-        tables,
-    ) {
+    if pairs::pair_decided(tablebase, masks, bounds.rings, bounds.edition, tables) {
         pairs::fill_tables(tablebase, tables, VOID);
-        return true;
+        return Err(TooDeep);
     }
-    false
+    Ok(())
 }

@@ -1,5 +1,5 @@
 -- The least depth from a level on in a part: none of the part's entries from that level on lies below it. Assumes nothing.
-use Rattle.std.proofs.Common.{◌≡◌, ℕ, zero, suc, ◌+◌, ◌-◌, ◌%◌, ◌<◌, ◌≤◌, Bool, true, false, ◌&&◌, ltb, leb, ◌⊎◌, List, [], ◌∷◌, length, get_or, drop, refl, ap, ◌∙◌, subst, inl, inr, arith, length-drop, length-take-le, get_or-drop, get_or-take, ltb-false, ltb-true, le-ltb, lt-ltb, le-leb, leb-false, leb-true}
+use Rattle.std.proofs.Common.{◌≡◌, ℕ, zero, suc, ◌+◌, ◌-◌, ◌%◌, min, ◌<◌, ◌≤◌, Bool, true, false, ◌&&◌, ltb, leb, ◌⊎◌, List, [], ◌∷◌, length, get_or, drop, refl, ap, ◌∙◌, subst, inl, inr, arith, length-drop, length-take-le, get_or-drop, get_or-take, ltb-false, ltb-true, le-ltb, lt-ltb, le-leb, leb-false, leb-true}
 use borrow.Author.Tests.{lt-leb}
 use Rattle.game.specs.Game.{void_entry}
 use Rattle.parts.specs.Parts.{part_of}
@@ -21,11 +21,11 @@ lowered least e low = go (leb low e) refl (ltb e least) refl
 
 -- the same by the difference from `low`, which wraps round below it
 module _ (low above e d : ℕ) (small : low + above ≤ void_entry) (fits : d < 65536) (wraps : (d + low) % 65536 ≡ e) where
-  pub nearer_taken : d < above → low + d ≡ nearer (low + above) e low
+  nearer_taken : d < above → low + d ≡ nearer (low + above) e low
   unfolding nearer
   nearer_taken h = rw (le-leb low e (omega arith), lt-ltb e (low + above) (omega arith), nearer) (omega arith)
 
-  pub nearer_kept : above ≤ d → low + above ≡ nearer (low + above) e low
+  nearer_kept : above ≤ d → low + above ≡ nearer (low + above) e low
   unfolding nearer
   nearer_kept h = go (ltb (d + low) 65536) refl
     where
@@ -36,6 +36,13 @@ module _ (low above e d : ℕ) (small : low + above ≤ void_entry) (fits : d < 
       go false f =
           let l = ltb-false (d + low) 65536 f in
           rw (lt-leb low e (omega arith), nearer)
+
+  pub nearer_is : low + min d above ≡ nearer (low + above) e low
+  nearer_is = go (ltb d above) refl
+    where
+      go : (b : Bool) → ltb d above ≡ b → low + min d above ≡ nearer (low + above) e low
+      go true f = let l = ltb-true d above f in omega (arith, nearer_taken l)
+      go false f = let l = ltb-false d above f in omega (arith, nearer_kept l)
 
 -- the least is void, or from `low` on and below void
 pub least_cases : (low : ℕ) (l : List ℕ) → (least_from low l ≡ void_entry) ⊎ ((low ≤ least_from low l) × (least_from low l < void_entry))

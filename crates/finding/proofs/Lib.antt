@@ -1,4 +1,3 @@
-pub mod Down
 pub mod Firsts
 pub mod LeastDepth
 pub mod Occurs

@@ -7,7 +7,8 @@ ghost use Rattle.game.specs.Game.{void_entry};
 ghost use Rattle.parts.specs.Parts.{part_of};
 ghost use Rattle.finding.specs.Inner.Finding.{First, NoneBefore, is_at, occurs, nearer, least_from};
 
-// Whether v is one of the two entries from place i on. Sixteen are tested at a time without a branch between them, which the machine does at once.
+// Whether v is one of the two entries from place i on. Sixteen are tested at a time without a branch between them, which the machine does at once. Each of
+// the four functions is twice the one before: a const argument cannot be halved.
 fn in_two(tablebase: &[u16], i: usize, v: u16) -> bool
     requires { i + 2 ≤ length tablebase.now }
     ensures { result ≡ occurs v tablebase.now i 2 }
@@ -36,7 +37,8 @@ fn in_sixteen(tablebase: &[u16], i: usize, v: u16) -> bool
     in_eight(tablebase, i, v) | in_eight(tablebase, i + 8, v)
 }
 
-// A place from `from` on and at most `end` before which v does not occur: sixteen entries with v come next, or fewer than sixteen are left.
+// A place from `from` on and at most `end` before which v does not occur: sixteen entries with v come next, or fewer than sixteen are left. The place
+// reached is the result: a `for` by steps would need it beside its counter.
 fn pass(tablebase: &[u16], from: usize, end: usize, v: u16) -> usize
     requires { (from ≤ end) × (end ≤ length tablebase.now) }
     ensures { NoneBefore (is_at v tablebase.now) from end result }
@@ -51,17 +53,15 @@ fn pass(tablebase: &[u16], from: usize, end: usize, v: u16) -> usize
     i
 }
 
-// The first place of v from `from` on and below `end`, or `end`.
+// The first place of v from `from` on and below `end`, or `end`: a search that goes on from there ends by its own bound, with no second test.
 pub fn find(tablebase: &[u16], from: usize, end: usize, v: u16) -> usize
     requires { (from ≤ end) × (end ≤ length tablebase.now) }
     ensures { First (is_at v tablebase.now) from end result }
 {
-    let mut i = pass(tablebase, from, end, v);
-    while i < end {
+    for i in pass(tablebase, from, end, v)..end {
         if tablebase[i] == v {
             return i;
         }
-        i += 1;
     }
     end
 }
@@ -71,11 +71,8 @@ fn nearer(above: u16, e: u16, low: u16) -> u16
     requires { low + above ≤ void_entry }
     ensures { low + result ≡ nearer (low + above) e low }
 {
-    let d = std::num::wrapping_sub_u16(e, low);
-    if d < above {
-        return d;
-    }
-    above
+    let d = e.wrapping_sub(low);
+    d.min(above)
 }
 
 // The least depth from `low` on among the entries of a part, void where there is none. The loop is a minimum of differences, which the machine takes
@@ -85,23 +82,19 @@ fn least_from(part: &[u16], low: u16) -> u16
     ensures { result ≡ least_from low part.now }
 {
     let mut above = parts::VOID - low;
-    let mut i = part.len();
-    while 0 < i {
-        i -= 1;
-        above = nearer(above, part[i], low);
+    for e in part.iter().rev() {
+        above = nearer(above, *e, low);
     }
     low + above
 }
 
-// Whether an entry of a part is void.
+// Whether an entry of a part is void. The loop looks at all entries without a branch, which the machine does for several at once.
 fn has_void(part: &[u16]) -> bool
     ensures { result ≡ any (λ e. nat_eq e void_entry) part.now }
 {
     let mut found = false;
-    let mut i = part.len();
-    while 0 < i {
-        i -= 1;
-        found = (part[i] == parts::VOID) | found;
+    for e in part {
+        found = (*e == parts::VOID) | found;
     }
     found
 }

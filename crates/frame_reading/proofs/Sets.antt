@@ -1,27 +1,38 @@
--- A loop's step over a frame by one character or one byte: whether a character is wrong, and the set of the points that hold a value. Assumes nothing.
-use mathlib.Core.Path.{◌≡◌, refl, ap, ◌∙◌}
-use mathlib.Core.Bool.{false, ◌||◌}
+-- Whether a character is wrong, and a loop's step over a frame by one byte: the set of the points that hold a value. Assumes nothing.
+use mathlib.Core.Path.{◌≡◌, refl, sym, ap, ◌∙◌}
+use mathlib.Core.Bool.{Bool, true, false}
+use Rattle.std.specs.Bool.{MatchBool}
+use Rattle.std.specs.List.{AllWithin, HoldsAt}
 use mathlib.Core.List.{List, [], ◌∷◌}
-use Prim.Native.Nat.{ℕ, zero, suc, ◌+◌, ◌-◌, ◌*◌, ◌/◌, ◌%◌, ◌^◌, ◌≤◌, ◌<◌}
+use Prim.Native.Nat.{ℕ, zero, suc, ◌+◌, ◌*◌, ◌/◌, ◌%◌, ◌^◌, ◌≤◌, ◌<◌}
 use native.Mathlib.Nat.{not-suc-le-zero, le_of_suc-le-suc, lt_of_lt_of_le}
 use native.Mathlib.Omega.{arith}
 use lib.Dec.{eqb}
 use lib.Pow.{pow_mono}
 use lib.ListN.{length, get_or, drop, length-drop}
-use lib.Seq.{drop-cons}
-use Rattle.lists.proofs.Tests.{or_left, or_right}
+use Rattle.lists.proofs.Tests.{or_left, or_right, left_or, right_or}
 use Rattle.board.specs.Board.{digit, set_of}
 use Rattle.board.proofs.Sides.{set_lt, set_none, set_cons}
 use Rattle.frames.specs.Frame.{outside, any_outside, frame_length, byte_of, bytes_in, points_in, rings_in}
 use Rattle.frames.proofs.Characters.{drop_two}
 
--- one character more, from the last on
-pub outside_step : (i : ℕ) (f : List ℕ) → 0 < i → i ≤ length f
-    → any_outside (drop (i - 1) f) ≡ (outside (get_or f (i - 1) 0) || any_outside (drop i f))
+-- what a search for a character outside answers
+found : (f : List ℕ) (k : ℕ) → k < length f → outside (get_or f k 0) ≡ true → any_outside f ≡ true
 unfolding any_outside
-outside_step i f p h =
-    let e : suc (i - 1) ≡ i = omega arith in
-    ap any_outside (drop-cons f (i - 1) 0 (omega arith)) ∙ ap (λ (k : ℕ). outside (get_or f (i - 1) 0) || any_outside (drop k f)) e
+found [] k h e = absurd (not-suc-le-zero h)
+found (c ∷ f) zero h e = left_or (outside c) (any_outside f) e
+found (c ∷ f) (suc k) h e = right_or (outside c) (any_outside f) (found f k (le_of_suc-le-suc h) e)
+
+none : (f : List ℕ) → ((k : ℕ) → k < length f → outside (get_or f k 0) ≡ false) → any_outside f ≡ false
+unfolding any_outside
+none [] h = refl
+none (c ∷ f) h = rw (h 0 (omega arith)) (none f (λ k l. h (suc k) (omega arith)))
+
+pub answered : (b : Bool) (f : List ℕ)
+    → MatchBool b ((k : ℕ) × (k < length f) × HoldsAt (λ x. outside x ≡ true) f k) (AllWithin (λ x. outside x ≡ false) f 0 (length f))
+    → b ≡ any_outside f
+answered true f h = sym (found f h.0 h.1 (h.2 0))
+answered false f h = sym (none f (λ k l. h k 0 (omega arith) l))
 
 pub inside_at_lem : (f : List ℕ) → any_outside f ≡ false → (i : ℕ) → i < length f → outside (get_or f i 0) ≡ false
 unfolding any_outside

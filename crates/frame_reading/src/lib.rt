@@ -19,13 +19,7 @@ fn outside(c: u8) -> bool
 fn any_outside(frame: &[u8]) -> bool
     ensures { result ≡ any_outside frame.now }
 {
-    let mut found = false;
-    let mut i = frame.len();
-    while 0 < i {
-        i -= 1;
-        found = outside(frame[i]) | found;
-    }
-    found
+    frame.iter().any(|c| outside(*c))
 }
 
 // Empty, over 64 characters, odd length, or a character outside 0-9 a-f.
@@ -86,10 +80,8 @@ pub fn points_with(frame: &[u8], v: u8) -> u32
     ensures { result ≡ set_of v (board_in frame.now) }
 {
     let mut s: u32 = 0;
-    let mut i = frame.len();
-    while 2 < i {
-        i -= 2;
-        s = 16 * s + four_with(byte_at(frame, i), v);
+    for i in (1..frame.len() / 2).rev() {
+        s = 16 * s + four_with(byte_at(frame, 2 * i), v);
     }
     s
 }

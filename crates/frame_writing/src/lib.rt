@@ -47,10 +47,8 @@ fn write_points(board: &[u8], n: usize, target: &mut [u8])
     requires { (length board.now ≡ 4 * n) × (n ≤ 6) × Values board.now × (2 + 2 * n ≤ length target.old) }
     ensures { target.new ≡ sets target.old 2 (spelled (packed board.now)) }
 {
-    let mut k = 0;
-    while k < n {
+    for k in 0..n {
         write_byte(target, 2 + 2 * k, byte_from(board, 4 * k));
-        k += 1;
     }
 }
 

@@ -1,5 +1,5 @@
 -- The rules of the fixed tables by point number (document 01: "Neighbours and mills stand as fixed tables by point number"). The tables are
--- those of three rings; fewer rings have a part of them (proofs/Geometry). Each is made once and lent with its rule. Assumes nothing.
+-- those of three rings; fewer rings have a part of them (proofs/Geometry). Assumes nothing.
 use Rattle.std.specs.Prelude.{◌≡◌, List, [], ℕ, ◌+◌, ◌*◌, ◌<◌, length, get_or}
 use Rattle.geometry.specs.Geometry.{neighbours, mills}
 

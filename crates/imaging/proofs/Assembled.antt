@@ -1,18 +1,16 @@
 -- The image of a set from the images of its rings. Assumes nothing.
 use mathlib.Core.Path.{◌≡◌, refl, sym, ap, subst, ◌∙◌}
 use mathlib.Core.Bool.{Bool, true, false}
-use mathlib.Core.List.{List}
 use Prim.Native.Nat.{ℕ, zero, suc, ◌+◌, ◌-◌, ◌*◌, ◌/◌, ◌%◌, ◌^◌, ◌≤◌, ◌<◌}
 use native.Mathlib.Nat.{zero-div}
 use native.Mathlib.Omega.{arith}
 use lib.Dec.{eqb, ltb}
-use lib.ListN.{get_or}
-use borrow.Author.Tests.{eqb-true, ltb-true, lt-ltb, eq-eqb, ne_eqb}
+use borrow.Author.Tests.{ltb-true, lt-ltb, eq-eqb, ne_eqb}
 use Rattle.lists.proofs.Table.{every_two, every_two_lem}
 use Rattle.sets.specs.Sets.{bit}
 use Rattle.sets.proofs.Laws.{same_set}
 use Rattle.symmetry.specs.Symmetries.{place_from, ring_from, source}
-use Rattle.imaging.specs.Inner.Images.{ImageSet, RingImage, RingImages}
+use Rattle.imaging.specs.Inner.Images.{ImageSet, RingImage}
 use Rattle.imaging.proofs.Bytes.{joined_first, joined_second, joined_third, first_byte, second_byte, third_byte}
 
 -- places: computed tests
@@ -26,23 +24,6 @@ within_tests = refl
 pub place_low : (g p : ℕ) → g < 16 → p < 8 → place_from g p < 8
 unfolding place_within
 place_low g p a b = ltb-true (place_from g p) 8 (every_two_lem 16 8 place_within within_tests g p a b)
-
-place_eight : ℕ → ℕ → Bool
-place_eight g p = eqb (place_from g p) (place_from (g % 8) p)
-
-eight_tests : every_two 16 8 place_eight ≡ true
-unfolding place_eight place_from
-eight_tests = refl
-
-pub place_same : (g p : ℕ) → g < 16 → p < 8 → place_from g p ≡ place_from (g % 8) p
-unfolding place_eight
-place_same g p a b = eqb-true (place_from g p) (place_from (g % 8) p) (every_two_lem 16 8 place_eight eight_tests g p a b)
-
--- a ring's image, looked up
-pub looked_up : (g s : ℕ) (t : List ℕ) → g < 16 → s < 256 → RingImages t → RingImage g s (get_or t (256 * (g % 8) + s) 0)
-looked_up g s t h l w =
-    let r = w.at (g % 8) s (omega arith) l in
-    record { within = r.within; at = λ p b. r.at p b ∙ ap (bit s) (sym (place_same g p h b)) }
 
 -- an empty ring has an empty image
 empty_bit : (p : ℕ) → bit 0 p ≡ 0

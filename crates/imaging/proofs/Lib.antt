@@ -1,4 +1,4 @@
 pub mod Bytes
 pub mod Assembled
-pub mod Making
 pub mod OnSets
+pub mod RingTable

@@ -1,8 +1,8 @@
-// Images of positions, as sets: a ring's images looked up in a table that is made once.
+// Images of positions, as sets.
 #![tactic(auto)]
 
 mod positions;
 mod rings;
+mod table;
 
 pub use positions::{image_of, image_set};
-pub use rings::ring_images;

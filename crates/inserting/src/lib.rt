@@ -50,21 +50,15 @@ fn count_below(s: u32, p: usize) -> usize
 }
 
 // Begins at a vacant point, with the rank of the position that has the stone there.
-pub fn begin(
-    binomials: &[u32; 625],
-    points: usize,
-    position: Position,
-    theirs: bool,
-    at: usize,
-) -> Insertion
-    requires rankable { Rankable binomials.now points position }
+pub fn begin(points: usize, position: Position, theirs: bool, at: usize) -> Insertion
+    requires rankable { Rankable points position }
     requires vacant { Vacant (board_of points position) at }
     ensures { (result.at ≡ at) × Inserting (board_of points position) theirs result }
 {
-    let whole = ranking::rank(binomials, points, put_stone(position, theirs, at));
+    let whole = ranking::rank(points, put_stone(position, theirs, at));
     let o = count_below(position.opponent, at);
     let stones = count_below(position.mover, at) + o;
-    let here = ranking::contribution(binomials, theirs, at, stones + 1, o + theirs as usize);
+    let here = ranking::contribution(theirs, at, stones + 1, o + theirs as usize);
     Insertion {
         at: at,
         stones: stones,
@@ -74,36 +68,17 @@ pub fn begin(
 }
 
 // The rank of the position with the stone at the point reached.
-pub fn rank_at(
-    binomials: &[u32; 625],
-    points: usize,
-    position: Position,
-    theirs: bool,
-    walk: Insertion,
-) -> usize
-    requires rankable { Rankable binomials.now points position }
+pub fn rank_at(points: usize, position: Position, theirs: bool, walk: Insertion) -> usize
+    requires rankable { Rankable points position }
     requires vacant { Vacant (board_of points position) walk.at × Inserting (board_of points position) theirs walk }
     ensures { result ≡ rank (set (board_of points position) walk.at (suc (digit theirs))) }
 {
-    walk.gain
-        + ranking::contribution(
-            binomials,
-            theirs,
-            walk.at,
-            walk.stones + 1,
-            walk.o + theirs as usize,
-        )
+    walk.gain + ranking::contribution(theirs, walk.at, walk.stones + 1, walk.o + theirs as usize)
 }
 
 // Passes a point. A stone there is from now on below the new one.
-fn pass(
-    binomials: &[u32; 625],
-    points: usize,
-    position: Position,
-    theirs: bool,
-    walk: Insertion,
-) -> Insertion
-    requires rankable { Rankable binomials.now points position }
+fn pass(points: usize, position: Position, theirs: bool, walk: Insertion) -> Insertion
+    requires rankable { Rankable points position }
     requires at_lt_points { (walk.at < points) × Inserting (board_of points position) theirs walk }
     ensures { (result.at ≡ walk.at + 1) × Inserting (board_of points position) theirs result }
 {
@@ -112,8 +87,8 @@ fn pass(
         let x = sets::has(position.opponent, p);
         let stones = walk.stones + 1;
         let o = walk.o + x as usize;
-        let old = ranking::contribution(binomials, x, p, stones + 1, o + theirs as usize);
-        let new = ranking::contribution(binomials, x, p, stones, o);
+        let old = ranking::contribution(x, p, stones + 1, o + theirs as usize);
+        let new = ranking::contribution(x, p, stones, o);
         return Insertion {
             at: p + 1,
             stones: stones,
@@ -131,20 +106,19 @@ fn pass(
 
 // Goes on to a point.
 pub fn go_to(
-    binomials: &[u32; 625],
     points: usize,
     position: Position,
     theirs: bool,
     walk: Insertion,
     to: usize,
 ) -> Insertion
-    requires rankable { Rankable binomials.now points position }
+    requires rankable { Rankable points position }
     requires at_le_to { (walk.at ≤ to) × (to < points) × Inserting (board_of points position) theirs walk }
     ensures { (result.at ≡ to) × Inserting (board_of points position) theirs result }
 {
     let mut now = walk;
     while now.at < to {
-        now = pass(binomials, points, position, theirs, now);
+        now = pass(points, position, theirs, now);
     }
     now
 }

@@ -29,7 +29,6 @@ const END: u32 = DRAW_KEY + 1;
 // fewer.
 pub fn hits(
     tablebase: &[u16],
-    binomials: &[u32; 625],
     masks: &[u32; 72],
     rings: usize,
     edition: u8,
@@ -37,7 +36,7 @@ pub fn hits(
     level: u32,
     position: board::Position,
 ) -> bool
-    requires probing { Probing binomials.now (length tablebase.now) rings starts position }
+    requires probing { Probing (length tablebase.now) rings starts position }
     requires masks { Masks rings masks.now × (level < void_entry) }
     ensures { result ≡ hit (successors (removable edition) rings)
         (λ b. probe tablebase.now starts.same starts.fewer (count 2 (board_of (8 * rings) position)) b) level (board_of
@@ -52,7 +51,7 @@ pub fn hits(
             low: low,
             high: high,
         };
-        return some_successor(tablebase, binomials, masks, rings, lost, position);
+        return some_successor(tablebase, masks, rings, lost, position);
     }
     let later = Question {
         edition: edition,
@@ -60,20 +59,19 @@ pub fn hits(
         low: level,
         high: END,
     };
-    !some_successor(tablebase, binomials, masks, rings, later, position)
+    !some_successor(tablebase, masks, rings, later, position)
 }
 
 // Whether they give it some depth: one is lost, or all are won.
 pub fn decided(
     tablebase: &[u16],
-    binomials: &[u32; 625],
     masks: &[u32; 72],
     rings: usize,
     edition: u8,
     starts: Starts,
     position: board::Position,
 ) -> bool
-    requires probing { Probing binomials.now (length tablebase.now) rings starts position }
+    requires probing { Probing (length tablebase.now) rings starts position }
     requires masks { Masks rings masks.now }
     ensures { result ≡ decided (successors (removable edition) rings)
         (λ b. probe tablebase.now starts.same starts.fewer (count 2 (board_of (8 * rings) position)) b) (board_of (8 * rings) position) }
@@ -84,7 +82,7 @@ pub fn decided(
         low: NOT_WON,
         high: VOID_KEY,
     };
-    if some_successor(tablebase, binomials, masks, rings, lost, position) {
+    if some_successor(tablebase, masks, rings, lost, position) {
         return true;
     }
     let other = Question {
@@ -93,20 +91,19 @@ pub fn decided(
         low: parts::VOID_WIDE,
         high: END,
     };
-    !some_successor(tablebase, binomials, masks, rings, other, position)
+    !some_successor(tablebase, masks, rings, other, position)
 }
 
 // Whether some successor's entry is void.
 pub fn void_after(
     tablebase: &[u16],
-    binomials: &[u32; 625],
     masks: &[u32; 72],
     rings: usize,
     edition: u8,
     starts: Starts,
     position: board::Position,
 ) -> bool
-    requires probing { Probing binomials.now (length tablebase.now) rings starts position }
+    requires probing { Probing (length tablebase.now) rings starts position }
     requires masks { Masks rings masks.now }
     ensures { result ≡ any (λ b. eqb (probe tablebase.now starts.same starts.fewer (count 2 (board_of
         (8 * rings) position)) b) void_entry)
@@ -118,5 +115,5 @@ pub fn void_after(
         low: VOID_KEY,
         high: DRAW_KEY,
     };
-    some_successor(tablebase, binomials, masks, rings, void, position)
+    some_successor(tablebase, masks, rings, void, position)
 }

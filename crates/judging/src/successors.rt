@@ -12,14 +12,13 @@ use asking::{Question, Stone};
 // Whether some move of one stone under the question's edition, to the set of its destinations, leads to a position whose entry is asked for.
 fn some_destination(
     tablebase: &[u16],
-    binomials: &[u32; 625],
     masks: &[u32; 72],
     rings: usize,
     question: Question,
     position: board::Position,
     stone: Stone,
 ) -> bool
-    requires probing { Probing binomials.now (length tablebase.now) rings question.starts position }
+    requires probing { Probing (length tablebase.now) rings question.starts position }
     requires movable { Movable rings masks.now position stone }
     ensures { result ≡ any (λ m. entry_asked tablebase.now question (board_of (8 * rings) position)
         (after_ply (board_of (8 * rings) position) m))
@@ -27,25 +26,20 @@ fn some_destination(
         (destinations rings (board_of (8 * rings) position) stone.from)) }
 {
     if sets::count(stone.tos) <= inserting::WALK_PAYS_ABOVE {
-        return asking::some_slide(
-            tablebase, binomials, masks, rings, question, position, stone,
-        );
+        return asking::some_slide(tablebase, masks, rings, question, position, stone);
     }
-    jumping::some_jump(
-        tablebase, binomials, masks, rings, question, position, stone,
-    )
+    jumping::some_jump(tablebase, masks, rings, question, position, stone)
 }
 
 // Whether some successor of a position under the question's edition has an entry that is asked for.
 pub fn some_successor(
     tablebase: &[u16],
-    binomials: &[u32; 625],
     masks: &[u32; 72],
     rings: usize,
     question: Question,
     position: board::Position,
 ) -> bool
-    requires probing { Probing binomials.now (length tablebase.now) rings question.starts position }
+    requires probing { Probing (length tablebase.now) rings question.starts position }
     requires masks { Masks rings masks.now }
     ensures { result ≡ any (λ c. entry_asked tablebase.now question (board_of (8 * rings) position) c)
         (successors (removable question.edition) rings (board_of (8 * rings) position)) }
@@ -56,7 +50,6 @@ pub fn some_successor(
         let tos = plies::destinations(rings, masks, position, from.lowest);
         if some_destination(
             tablebase,
-            binomials,
             masks,
             rings,
             question,

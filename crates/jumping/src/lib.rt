@@ -24,39 +24,35 @@ pub struct Jump {
 // the walk's.
 fn some_at(
     tablebase: &[u16],
-    binomials: &[u32; 625],
     rings: usize,
     question: Question,
     position: board::Position,
     jump: Jump,
     removals: u32,
 ) -> bool
-    requires probing { Probing binomials.now (length tablebase.now) rings question.starts position }
+    requires probing { Probing (length tablebase.now) rings question.starts position }
     requires removing { Removing rings position jump.slide removals × Jumping rings position jump }
     ensures { result ≡ any (λ p. entry_asked tablebase.now question (board_of (8 * rings) position)
         (after_ply (board_of (8 * rings) position) (jump.slide + p))) (elements 32 removals) }
 {
     if removals == plies::NO_REMOVAL {
-        let r = inserting::rank_at(binomials, 8 * rings, jump.lifted, true, jump.walk);
+        let r = inserting::rank_at(8 * rings, jump.lifted, true, jump.walk);
         let starts = question.starts;
         return asking::asked(question, tablebase[starts.same + r]);
     }
-    asking::some_removal(
-        tablebase, binomials, rings, question, position, jump.slide, removals,
-    )
+    asking::some_removal(tablebase, rings, question, position, jump.slide, removals)
 }
 
 // Whether some move of one stone under the question's edition, to the set of its destinations, leads to such an entry.
 pub fn some_jump(
     tablebase: &[u16],
-    binomials: &[u32; 625],
     masks: &[u32; 72],
     rings: usize,
     question: Question,
     position: board::Position,
     stone: Stone,
 ) -> bool
-    requires probing { Probing binomials.now (length tablebase.now) rings question.starts position }
+    requires probing { Probing (length tablebase.now) rings question.starts position }
     requires movable { Movable rings masks.now position stone × (stone.tos ≡ 0 → ⊥) }
     ensures { result ≡ any (λ m. entry_asked tablebase.now question (board_of (8 * rings) position)
         (after_ply (board_of (8 * rings) position) m))
@@ -67,11 +63,11 @@ pub fn some_jump(
         mover: position.opponent,
         opponent: sets::without(position.mover, stone.from),
     };
-    let mut walk = inserting::begin(binomials, 8 * rings, lifted, true, sets::lowest(stone.tos));
+    let mut walk = inserting::begin(8 * rings, lifted, true, sets::lowest(stone.tos));
     let mut left = stone.tos;
     while left != 0 {
         let point = sets::take_lowest(left);
-        walk = inserting::go_to(binomials, 8 * rings, lifted, true, walk, point.lowest);
+        walk = inserting::go_to(8 * rings, lifted, true, walk, point.lowest);
         let removals = plies::removals(
             rings,
             question.edition,
@@ -82,7 +78,6 @@ pub fn some_jump(
         );
         if some_at(
             tablebase,
-            binomials,
             rings,
             question,
             position,

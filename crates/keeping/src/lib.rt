@@ -1,4 +1,5 @@
-// What is kept of a line that is not yet ended.
+// What is kept of a line that is not yet ended. The buffer and the number of bytes in it stay apart: the edit `session/short_kept_line` lends a buffer
+// that is too short, which a type of both would exclude.
 #![tactic(auto)]
 
 ghost use Rattle.std.specs.Prelude.{◌≡◌, ◌≤◌, length, take};

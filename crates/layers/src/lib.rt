@@ -8,7 +8,7 @@ ghost use Rattle.masks.specs.Inner.Masks.{Masks};
 ghost use Rattle.finding.specs.Inner.Finding.{First};
 ghost use Rattle.classing.specs.Inner.Classes.{least_of_class};
 ghost use Rattle.classing.specs.Inner.Conditions.{Imaging};
-ghost use Rattle.probing.specs.Inner.Conditions.{Lent};
+ghost use Rattle.masks.specs.Inner.Masks.{Masks};
 ghost use Rattle.returning.specs.Inner.Returning.{Returning};
 ghost use Rattle.layers.specs.Inner.Layers.{Stored, Preceding, is_source, gone_back, marked_from};
 
@@ -30,7 +30,7 @@ pub struct Layer {
     pub depth: u16,
 }
 
-// The first rank from r on of a position of a layer, or the size.
+// The first rank from r on of a position of a layer, or the size, which ends the loop over them.
 fn find_source(tablebase: &[u16], layer: Layer, size: usize, r: usize) -> usize
     requires { (r ≤ size) × Stored layer.source size (length tablebase.now) }
     ensures { First (is_source layer.source layer.depth tablebase.now) r size result }
@@ -50,48 +50,38 @@ fn find_source(tablebase: &[u16], layer: Layer, size: usize, r: usize) -> usize
 // Marks the open positions before a position in the part of their table, if it is the least of its class.
 fn mark_source(
     tablebase: &mut [u16],
-    binomials: &[u32; 625],
     masks: &[u32; 72],
-    images: &[u8; 2048],
     maps: Maps,
     back: Back,
     position: board::Position,
 )
-    requires returning { Returning binomials.now (length tablebase.old) maps.rings back position }
-    requires masks { Masks maps.rings masks.now × Imaging images.now maps position }
+    requires returning { Returning (length tablebase.old) maps.rings back position }
+    requires masks { Masks maps.rings masks.now × Imaging maps position }
     ensures { tablebase.new
         ≡ gone_back maps.rings back.part.start back.capture (least_of_class maps.rings maps.count) (board_of (8 * maps.rings) position)
         tablebase.old }
 {
-    if classing::is_least(images, maps, position) {
-        marking::mark_before(tablebase, binomials, masks, maps.rings, back, position);
+    if classing::is_least(maps, position) {
+        marking::mark_before(tablebase, masks, maps.rings, back, position);
     }
 }
 
 // Marks the open positions of a table that have plies to positions of a depth in one of the tables that plies lead to.
-pub fn mark_table(
-    tablebase: &mut [u16],
-    binomials: &[u32; 625],
-    masks: &[u32; 72],
-    images: &[u8; 2048],
-    maps: Maps,
-    back: Back,
-    layer: Layer,
-)
-    requires lent { Lent maps.rings binomials.now masks.now }
-    requires preceding { Preceding images.now (length tablebase.old) maps back layer }
+pub fn mark_table(tablebase: &mut [u16], masks: &[u32; 72], maps: Maps, back: Back, layer: Layer)
+    requires masks { Masks maps.rings masks.now }
+    requires preceding { Preceding (length tablebase.old) maps back layer }
     ensures { tablebase.new
         ≡ marked_from maps.rings back.part.start layer.source back.capture layer.depth (least_of_class maps.rings maps.count)
         tablebase.old (size (8 * maps.rings) layer.source.mover layer.source.opponent) }
 {
     let source = layer.source;
     let points = 8 * maps.rings;
-    let size = sizes::size(binomials, points, source.mover, source.opponent);
+    let size = sizes::size(points, source.mover, source.opponent);
     let mut at = seeking::nowhere(size);
     let mut r = find_source(tablebase, layer, size, 0);
     while r < size {
-        at = seeking::seek(binomials, maps.rings, source.mover, source.opponent, at, r);
-        mark_source(tablebase, binomials, masks, images, maps, back, at.position);
+        at = seeking::seek(maps.rings, source.mover, source.opponent, at, r);
+        mark_source(tablebase, masks, maps, back, at.position);
         r = find_source(tablebase, layer, size, r + 1);
     }
 }

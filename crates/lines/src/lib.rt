@@ -52,12 +52,10 @@ pub fn feed(tablebase: &[u16], block: &[u8], held: &mut [u8], kept: usize, out: 
 {
     let mut count = kept;
     let mut used = 0;
-    let mut i = 0;
-    while i < block.len() {
+    for i in 0..block.len() {
         let fed = step(tablebase, block[i], held, count, out, used);
         count = fed.kept;
         used = fed.used;
-        i += 1;
     }
     Fed { kept: count, used }
 }

@@ -33,14 +33,13 @@ fn may_have_moved(
 // Marks the positions before a ply of the stone at a point. It goes back to where it might go on to, were its side to move.
 fn mark_stone(
     tablebase: &mut [u16],
-    binomials: &[u32; 625],
     masks: &[u32; 72],
     rings: usize,
     back: Back,
     position: board::Position,
     to: usize,
 )
-    requires returning { Returning binomials.now (length tablebase.old) rings back position }
+    requires returning { Returning (length tablebase.old) rings back position }
     requires masks { Masks rings masks.now × (bit position.opponent to ≡ 1) }
     ensures { tablebase.new
         ≡ marked (places back.part.start (before_stone back.capture rings (board_of (8 * rings) position) to)) tablebase.old }
@@ -51,7 +50,7 @@ fn mark_stone(
             opponent: position.mover,
         };
         let froms = plies::destinations(rings, masks, turned, to);
-        returning::mark_origins(tablebase, binomials, rings, back, position, to, froms);
+        returning::mark_origins(tablebase, rings, back, position, to, froms);
     }
 }
 
@@ -59,13 +58,12 @@ fn mark_stone(
 // removed none.
 pub fn mark_before(
     tablebase: &mut [u16],
-    binomials: &[u32; 625],
     masks: &[u32; 72],
     rings: usize,
     back: Back,
     position: board::Position,
 )
-    requires returning { Returning binomials.now (length tablebase.old) rings back position }
+    requires returning { Returning (length tablebase.old) rings back position }
     requires masks { Masks rings masks.now }
     ensures { tablebase.new
         ≡ marked (places back.part.start (predecessors back.capture rings (board_of (8 * rings) position))) tablebase.old }
@@ -73,9 +71,7 @@ pub fn mark_before(
     let mut left = position.opponent;
     while left != 0 {
         let to = sets::take_lowest(left);
-        mark_stone(
-            tablebase, binomials, masks, rings, back, position, to.lowest,
-        );
+        mark_stone(tablebase, masks, rings, back, position, to.lowest);
         left = to.rest;
     }
 }

@@ -5,7 +5,6 @@
 ghost use Rattle.std.specs.Prelude.{◌≡◌, [], ◌-◌, ◌*◌, ◌^◌, ◌≤◌, ◌<◌, length, get_or, replicate};
 ghost use Rattle.sets.specs.Sets.{set_from};
 ghost use Rattle.geometry.specs.Geometry.{neighbours, mills, mills_through};
-ghost use Rattle.geometry.specs.Tables.{NeighbourTable, DegreeTable, MillTable};
 ghost use Rattle.masks.specs.Inner.Masks.{Masks};
 ghost use Rattle.masks.specs.Inner.Placing.{placed, mill_placed, mills_placed};
 
@@ -36,14 +35,14 @@ fn place(masks: &mut [u32; 72], p: usize, mill: u32)
 }
 
 // One of the sixteen mills at its three points.
-fn place_mill(masks: &mut [u32; 72], table: &[usize; 48], mill: usize)
-    requires { MillTable table.now × (mill < 16) }
+fn place_mill(masks: &mut [u32; 72], mill: usize)
+    requires { mill < 16 }
     ensures { masks.new ≡ mill_placed mill masks.old }
 {
-    let s = geometry::mill_set(table, mill);
-    place(masks, geometry::mill_point(table, mill, 0), s);
-    place(masks, geometry::mill_point(table, mill, 1), s);
-    place(masks, geometry::mill_point(table, mill, 2), s);
+    let s = geometry::mill_set(mill);
+    place(masks, geometry::mill_point(mill, 0), s);
+    place(masks, geometry::mill_point(mill, 1), s);
+    place(masks, geometry::mill_point(mill, 2), s);
 }
 
 // How many of the sixteen mills are mills of the board.
@@ -62,33 +61,30 @@ fn mills_placed(rings: usize) -> [u32; 72]
     requires { rings ≤ 3 }
     ensures { result ≡ mills_placed (length (mills rings)) (replicate 72 0) }
 {
-    let table = geometry::mill_table();
     let count = mill_count(rings);
     let mut masks = [0u32; 72];
-    let mut i = 0;
-    while i < count {
-        place_mill(&mut masks, &table, i);
-        i += 1;
+    for i in 0..count {
+        place_mill(&mut masks, i);
     }
     masks
 }
 
 // The neighbours of one point on three rings: two, three or four.
-fn neighbour_mask(table: &[usize; 96], degrees: &[usize; 24], p: usize) -> u32
-    requires { NeighbourTable table.now × DegreeTable degrees.now × (p < 24) }
+fn neighbour_mask(p: usize) -> u32
+    requires { p < 24 }
     ensures { result ≡ set_from (neighbours 3 p) }
 {
-    let degree = geometry::degree(degrees, p);
-    let first = sets::with(0, geometry::neighbour(table, p, 0));
-    let two = sets::with(first, geometry::neighbour(table, p, 1));
+    let degree = geometry::degree(p);
+    let first = sets::with(0, geometry::neighbour(p, 0));
+    let two = sets::with(first, geometry::neighbour(p, 1));
     if degree == 2 {
         return two;
     }
-    let three = sets::with(two, geometry::neighbour(table, p, 2));
+    let three = sets::with(two, geometry::neighbour(p, 2));
     if degree == 3 {
         return three;
     }
-    sets::with(three, geometry::neighbour(table, p, 3))
+    sets::with(three, geometry::neighbour(p, 3))
 }
 
 // The points of a board.
@@ -104,14 +100,10 @@ pub fn masks_of(rings: usize) -> [u32; 72]
     requires { rings ≤ 3 }
     ensures { Masks rings result }
 {
-    let table = geometry::neighbour_table();
-    let degrees = geometry::degree_table();
     let points = all_points(rings);
     let mut masks = mills_placed(rings);
-    let mut p = 0;
-    while p < 24 {
-        masks[p] = points & neighbour_mask(&table, &degrees, p);
-        p += 1;
+    for p in 0..24 {
+        masks[p] = points & neighbour_mask(p);
     }
     masks
 }

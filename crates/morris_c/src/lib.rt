@@ -15,7 +15,7 @@ pub extern "C" fn morris_rank(rings: u8, board: &[u8], rank: &mut u64) -> u8
     ensures refusal { result ≡ number_of (rank_call rings board.now) }
     ensures rank { rank.new ≡ value (rank_call rings board.now) 0 }
 {
-    numbers::ranked(morris::rank(rings, board), rank)
+    numbers::one(morris::rank(rings, board), rank)
 }
 
 // Writes the board of a rank among those of the given counts over the target.
@@ -30,7 +30,7 @@ pub extern "C" fn morris_unrank(
     ensures refusal { result ≡ number_of (unrank_call rings mover opponent rank target.old) }
     ensures target { target.new ≡ unrank_target rings mover opponent rank target.old }
 {
-    numbers::unranked(morris::unrank(rings, mover, opponent, rank, target))
+    numbers::done(morris::unrank(rings, mover, opponent, rank, target))
 }
 
 // Lists a board's moves under a rules edition, captures first, at the start of the list, and says how many.
@@ -46,7 +46,7 @@ pub extern "C" fn morris_moves(
     ensures moves { moves.new ≡ moves_list rings edition board.now moves.old }
     ensures count { count.new ≡ value (moves_call rings edition board.now moves.old) 0 }
 {
-    numbers::listed(morris::moves(rings, edition, board, moves), count)
+    numbers::one(morris::moves(rings, edition, board, moves), count)
 }
 
 // Writes the board after a move that is listed under the edition over the target.
@@ -61,7 +61,7 @@ pub extern "C" fn morris_make_move(
     ensures refusal { result ≡ number_of (make_move_call rings edition board.now number target.old) }
     ensures target { target.new ≡ make_move_target rings edition board.now number target.old }
 {
-    numbers::made(morris::make_move(rings, edition, board, number, target))
+    numbers::done(morris::make_move(rings, edition, board, number, target))
 }
 
 // The rank of the representative of a board's class.
@@ -70,7 +70,7 @@ pub extern "C" fn morris_representative(rings: u8, board: &[u8], rank: &mut u64)
     ensures refusal { result ≡ number_of (representative_call rings board.now) }
     ensures rank { rank.new ≡ value (representative_call rings board.now) 0 }
 {
-    numbers::represented(morris::representative(rings, board), rank)
+    numbers::one(morris::representative(rings, board), rank)
 }
 
 // Fills the tablebase of largest count k under an edition.
@@ -84,7 +84,7 @@ pub extern "C" fn morris_fill(
 ) -> u8
     ensures { FillCall rings edition k limit tablebase.old tablebase.new (answered result []) }
 {
-    numbers::solved(morris::fill(rings, edition, k, limit, tablebase))
+    numbers::done(morris::fill(rings, edition, k, limit, tablebase))
 }
 
 // Fills the tables of two counts, either way round, over the entries of their lower tables, under an edition.
@@ -100,7 +100,7 @@ pub extern "C" fn morris_fill_pair(
 ) -> u8
     ensures { FillPairCall rings edition mover opponent k limit tablebase.old tablebase.new (answered result []) }
 {
-    numbers::solved(morris::fill_pair(rings, edition, mover, opponent, k, limit, tablebase))
+    numbers::done(morris::fill_pair(rings, edition, mover, opponent, k, limit, tablebase))
 }
 
 // The entry of a board in a tablebase of largest count k, under the edition with which it was filled.
@@ -116,7 +116,7 @@ pub extern "C" fn morris_lookup(
     ensures refusal { result ≡ number_of (lookup_call rings edition board.now k tablebase.now) }
     ensures entry { entry.new ≡ value (lookup_call rings edition board.now k tablebase.now) 0 }
 {
-    numbers::looked(morris::lookup(rings, edition, board, k, tablebase), entry)
+    numbers::one(morris::lookup(rings, edition, board, k, tablebase), entry)
 }
 
 // The best move of a board under an edition, and the entry of the successor that it leads to.
@@ -186,5 +186,5 @@ pub extern "C" fn morris_write_frame(
     ensures frame { frame.new ≡ write_frame_target rings board.now frame.old }
     ensures written { written.new ≡ value (write_frame_call rings board.now frame.old) 0 }
 {
-    numbers::frame_written(morris::write_frame(rings, board, frame), written)
+    numbers::one(morris::write_frame(rings, board, frame), written)
 }

@@ -4,7 +4,7 @@
 ghost use Rattle.std.specs.Prelude.{◌≡◌, ◌*◌, length};
 ghost use Rattle.rules.specs.Ply.{removable};
 ghost use Rattle.classing.specs.Inner.Classes.{least_of_class};
-ghost use Rattle.probing.specs.Inner.Conditions.{Lent};
+ghost use Rattle.masks.specs.Inner.Masks.{Masks};
 ghost use Rattle.deciding.specs.Inner.Fits.{Lies, Fits};
 ghost use Rattle.pairs.specs.Inner.Pairs.{InRoom, PairSweeping, pair_blocked, pair_by_classes, pair_filled, PairFound};
 
@@ -31,37 +31,29 @@ pub fn fill_tables(tablebase: &mut [u16], tables: Tables, v: u16)
 }
 
 // Both tables of a pair at level 0.
-pub fn sweep_pair(
-    tablebase: &mut [u16],
-    binomials: &[u32; 625],
-    masks: &[u32; 72],
-    rings: usize,
-    tables: Tables,
-)
-    requires lent { Lent rings binomials.now masks.now }
+pub fn sweep_pair(tablebase: &mut [u16], masks: &[u32; 72], rings: usize, tables: Tables)
+    requires masks { Masks rings masks.now }
     requires lies { Lies (8 * rings) tables.first (length tablebase.old) × Lies (8 * rings) tables.second (length tablebase.old) }
     ensures { tablebase.new ≡ pair_blocked rings tables.first tables.second tablebase.old }
 {
     let first = tables.first;
-    halving::sweep_blocked(tablebase, binomials, masks, rings, first);
+    halving::sweep_blocked(tablebase, masks, rings, first);
     if first.mover != first.opponent {
-        halving::sweep_blocked(tablebase, binomials, masks, rings, tables.second);
+        halving::sweep_blocked(tablebase, masks, rings, tables.second);
     }
 }
 
 // Both tables of a pair at a level above 0.
 pub fn level_pair(
     tablebase: &mut [u16],
-    binomials: &[u32; 625],
     masks: &[u32; 72],
-    images: &[u8; 2048],
     maps: Maps,
     edition: u8,
     tables: Tables,
     level: u16,
 )
-    requires lent { Lent maps.rings binomials.now masks.now }
-    requires pair_sweeping { PairSweeping images.now (length tablebase.old) maps tables level }
+    requires masks { Masks maps.rings masks.now }
+    requires pair_sweeping { PairSweeping (length tablebase.old) maps tables level }
     ensures { tablebase.new
         ≡ pair_by_classes (removable edition) maps.rings tables.first tables.second level maps.count
         (least_of_class maps.rings maps.count) tablebase.old }
@@ -72,9 +64,7 @@ pub fn level_pair(
     let two = second.own;
     sweeping::level_table(
         tablebase,
-        binomials,
         masks,
-        images,
         maps,
         Sweep {
             edition: edition,
@@ -86,9 +76,7 @@ pub fn level_pair(
     if first.mover != first.opponent {
         sweeping::level_table(
             tablebase,
-            binomials,
             masks,
-            images,
             maps,
             Sweep {
                 edition: edition,
@@ -103,13 +91,12 @@ pub fn level_pair(
 // Whether some open position of a pair is decided by its successors.
 pub fn pair_decided(
     tablebase: &[u16],
-    binomials: &[u32; 625],
     masks: &[u32; 72],
     rings: usize,
     edition: u8,
     tables: Tables,
 ) -> bool
-    requires lent { Lent rings binomials.now masks.now }
+    requires masks { Masks rings masks.now }
     requires fits { Fits (length tablebase.now) rings tables.first tables.second.own.start
         × Fits (length tablebase.now) rings tables.second tables.first.own.start }
     ensures { PairFound (removable edition) rings tables.first tables.second tablebase.now result }
@@ -118,12 +105,8 @@ pub fn pair_decided(
     let second = tables.second;
     let one = first.own;
     let two = second.own;
-    if deciding::some_decided(
-        tablebase, binomials, masks, rings, edition, first, two.start,
-    ) {
+    if deciding::some_decided(tablebase, masks, rings, edition, first, two.start) {
         return true;
     }
-    deciding::some_decided(
-        tablebase, binomials, masks, rings, edition, second, one.start,
-    )
+    deciding::some_decided(tablebase, masks, rings, edition, second, one.start)
 }

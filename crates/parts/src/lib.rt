@@ -1,7 +1,7 @@
 // One table's part of a tablebase: the places from its start on and below its end. The function that writes entries is lent that part alone.
 #![tactic(auto)]
 
-ghost use Rattle.std.specs.Prelude.{◌≡◌, true, false, ◌+◌, ◌≤◌, ◌<◌, eqb, length, get_or, set, replicate};
+ghost use Rattle.std.specs.Prelude.{◌≡◌, true, false, ◌+◌, ◌≤◌, ◌<◌, eqb, length, get_or, set};
 ghost use Rattle.game.specs.Game.{draw_entry, void_entry};
 ghost use Rattle.parts.specs.Parts.{filled_part};
 
@@ -21,17 +21,6 @@ pub const VOID_WIDE: u32 = VOID as u32;
 pub struct Part {
     pub start: usize,
     pub end: usize,
-}
-
-// Every entry of a part is v.
-fn fill(part: &mut [u16], v: u16)
-    ensures { part.new ≡ replicate (length part.old) v }
-{
-    let mut i = 0;
-    while i < part.len() {
-        part[i] = v;
-        i += 1;
-    }
 }
 
 // The entry at place r of a part is v.
@@ -62,7 +51,7 @@ pub fn fill_table(tablebase: &mut [u16], part: Part, v: u16)
 {
     let start = part.start;
     let end = part.end;
-    fill(&mut tablebase[start..end], v);
+    tablebase[start..end].fill(v);
 }
 
 // Writes the entry of rank r of a table.

@@ -20,13 +20,10 @@ const EDITION: u8 = 1;
 fn has_mill(stones: u32) -> bool
     ensures { result ≡ has_mill 3 (λ q. has stones q) }
 {
-    let mills = geometry::mill_table();
-    let mut i = 0;
-    while i < 16 {
-        if sets::share_three(stones, geometry::mill_set(&mills, i)) {
+    for i in 0..16 {
+        if sets::share_three(stones, geometry::mill_set(i)) {
             return true;
         }
-        i += 1;
     }
     false
 }

@@ -1,14 +1,17 @@
--- What the conditions say where they do not hold, and the step of the loop that looks for a wrong value. Assumes nothing.
+-- What the conditions say where they do not hold, and what a search for a wrong value answers. Assumes nothing.
 use mathlib.Core.Path.{◌≡◌, refl, sym, ap, ◌∙◌}
-use mathlib.Core.Bool.{false, cond, not, ◌||◌}
+use mathlib.Core.Bool.{Bool, true, false, cond, not, ◌||◌}
 use mathlib.Core.List.{List, [], ◌∷◌}
-use Prim.Native.Nat.{ℕ, suc, ◌+◌, ◌-◌, ◌*◌, ◌≤◌, ◌<◌}
+use Prim.Native.Nat.{ℕ, zero, suc, ◌+◌, ◌-◌, ◌*◌, ◌≤◌, ◌<◌}
+use native.Mathlib.Nat.{not-suc-le-zero, le_of_suc-le-suc}
 use native.Mathlib.Omega.{arith}
 use lib.Dec.{eqb, ltb}
 use lib.ListN.{length, get_or, drop}
 use lib.Seq.{drop-cons}
 use borrow.Author.Tests.{ltb-false, le-ltb, leb-false, le-leb, lt-leb, eqb-true, eq-eqb, not-false}
-use Rattle.lists.proofs.Tests.{or_left, or_right}
+use Rattle.std.specs.Bool.{MatchBool}
+use Rattle.std.specs.List.{AllWithin, HoldsAt}
+use Rattle.lists.proofs.Tests.{or_left, or_right, left_or, right_or}
 use Rattle.board.specs.Board.{Values, count}
 use Rattle.sizes.specs.Size.{size}
 use Rattle.refusals.specs.Refusals.{Picked, refusal_table, picked_rows, refusal}
@@ -30,13 +33,24 @@ values_right [] e = tt
 values_right (x ∷ b) e =
     (ltb-false 2 x (or_left (ltb 2 x) (value_wrong b) e), values_right b (or_right (ltb 2 x) (value_wrong b) e))
 
--- one value more, from the highest point down
-pub value_step : (i : ℕ) (b : List ℕ) → 0 < i → i ≤ length b
-    → value_wrong (drop (i - 1) b) ≡ (ltb 2 (get_or b (i - 1) 0) || value_wrong (drop i b))
+-- a value above 2 somewhere, or nowhere
+value_found : (b : List ℕ) (k : ℕ) → k < length b → ltb 2 (get_or b k 0) ≡ true → value_wrong b ≡ true
 unfolding value_wrong
-value_step i b p h =
-    let e : suc (i - 1) ≡ i = omega arith in
-    ap value_wrong (drop-cons b (i - 1) 0 (omega arith)) ∙ ap (λ (k : ℕ). ltb 2 (get_or b (i - 1) 0) || value_wrong (drop k b)) e
+value_found [] k h e = absurd (not-suc-le-zero h)
+value_found (x ∷ b) zero h e = left_or (ltb 2 x) (value_wrong b) e
+value_found (x ∷ b) (suc k) h e = right_or (ltb 2 x) (value_wrong b) (value_found b k (le_of_suc-le-suc h) e)
+
+value_none : (b : List ℕ) → ((k : ℕ) → k < length b → ltb 2 (get_or b k 0) ≡ false) → value_wrong b ≡ false
+unfolding value_wrong
+value_none [] h = refl
+value_none (x ∷ b) h = rw (h 0 (omega arith)) (value_none b (λ k l. h (suc k) (omega arith)))
+
+-- what a search for a value above 2 answers
+pub values_searched : (t : Bool) (b : List ℕ)
+    → MatchBool t ((k : ℕ) × (k < length b) × HoldsAt (λ x. ltb 2 x ≡ true) b k) (AllWithin (λ x. ltb 2 x ≡ false) b 0 (length b))
+    → t ≡ value_wrong b
+values_searched true b h = sym (value_found b h.0 h.1 (h.2 0))
+values_searched false b h = sym (value_none b (λ k l. h k 0 (omega arith) l))
 
 -- what right counts are
 pub record RightCounts (points m o : ℕ) : Type 0 where

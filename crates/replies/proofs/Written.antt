@@ -1,4 +1,5 @@
 -- A line of a board's fields, and a line that was written. Assumes nothing.
+use Rattle.std.specs.Prelude.{Option}
 use mathlib.Core.Path.{◌≡◌, subst, ◌∙◌}
 use mathlib.Core.List.{List}
 use Prim.Native.Nat.{ℕ, ◌+◌, ◌≤◌}
@@ -10,14 +11,13 @@ use Rattle.board.specs.Board.{count, position_of}
 use Rattle.board.proofs.Sides.{mover_stones, opponent_stones}
 use Rattle.answers.specs.Answers.{value}
 use Rattle.rank_calls.specs.RankCall.{rank_call}
-use Rattle.text.specs.declared.Field.{Field}
 use Rattle.text.specs.Text.{position_line}
 use Rattle.text.specs.Inner.Room.{most_bytes}
 use Rattle.fields.specs.Fields.{entry_field, move_field}
 use Rattle.replies.specs.Replies.{board_line}
 
 -- a line of these fields is the board's
-pub board_line_lem : (tablebase : List ℕ) (rings : ℕ) (b : List ℕ) → length b ≤ 24 → (p : Position) → p ≡ position_of b → (m o r : ℕ) (entry move : Field)
+pub board_line_lem : (tablebase : List ℕ) (rings : ℕ) (b : List ℕ) → length b ≤ 24 → (p : Position) → p ≡ position_of b → (m o r : ℕ) (entry move : Option ℕ)
     → m ≡ members p.mover 32 → o ≡ members p.opponent 32 → r ≡ value (rank_call rings b) 0
     → entry ≡ entry_field tablebase rings b → move ≡ move_field tablebase rings b
     → position_line rings m o r entry move ≡ board_line tablebase rings b

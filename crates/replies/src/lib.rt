@@ -6,7 +6,7 @@ ghost use Rattle.std.proofs.lemmas.List.Edits.{sets};
 ghost use Rattle.text.specs.Inner.Room.{most_bytes};
 ghost use Rattle.replies.specs.Replies.{board_line, answer_of};
 
-use answers::Frame;
+use answers::Refusal;
 use board::Position;
 use text::Standing;
 
@@ -41,20 +41,18 @@ pub fn answer_at(tablebase: &[u16], line: &[u8], out: &mut [u8], at: usize) -> u
     ensures buffer { out.new ≡ sets out.old at (answer_of tablebase.now line.now) }
 {
     let read = frame_calls::read_frame(line);
-    let Frame::Position {
-        rings,
-        mover,
-        opponent,
-    } = read
-    else {
+    let Ok(frame) = read else {
         return text::put_refused(out, at, frame_calls::number_of(read) as u64);
     };
-    let position = Position { mover, opponent };
-    if reachability::unreachable(rings, fields::DESK_EDITION, position) {
-        return text::put_refused(out, at, refusals::UNREACHABLE as u64);
+    let position = Position {
+        mover: frame.mover,
+        opponent: frame.opponent,
+    };
+    if reachability::unreachable(frame.rings, fields::DESK_EDITION, position) {
+        return text::put_refused(out, at, Refusal::Unreachable.number() as u64);
     }
     let mut board = [0u8; 24];
     board::write_board(position, &mut board);
-    let points = 8 * rings as usize;
-    put_board(tablebase, rings, &board[..points], out, at)
+    let points = 8 * frame.rings as usize;
+    put_board(tablebase, frame.rings, &board[..points], out, at)
 }

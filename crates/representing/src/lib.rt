@@ -3,7 +3,6 @@
 
 ghost use Rattle.std.specs.Prelude.{◌≡◌, ◌*◌, ◌≤◌, ◌<◌, length};
 ghost use Rattle.board.specs.Board.{Values};
-ghost use Rattle.sizes.specs.Inner.Binomial.{BinomialTable};
 ghost use Rattle.ranking.specs.Rank.{rank};
 ghost use Rattle.symmetry.specs.Symmetries.{symmetries, ring_from, source, image, whole};
 ghost use Rattle.symmetry.specs.Representative.{in_use, least_image, representative};
@@ -38,11 +37,8 @@ fn image(rings: usize, g: usize, board: [u8; 24]) -> [u8; 24]
     ensures { result ≡ image rings g board }
 {
     let mut out = [0u8; 24];
-    let mut p = 0;
-    while p < 24 {
-        let from = source(rings, g, p);
-        out[p] = board[from];
-        p += 1;
+    for p in 0..24 {
+        out[p] = board[source(rings, g, p)];
     }
     out
 }
@@ -53,53 +49,44 @@ fn whole(board: &[u8]) -> [u8; 24]
     ensures { result ≡ whole board.now }
 {
     let mut points = [0u8; 24];
-    let mut p = 0;
-    while p < board.len() {
-        points[p] = board[p];
-        p += 1;
-    }
+    points[..board.len()].copy_from_slice(board);
     points
 }
 
 // The rank of a whole board's points in use.
-fn rank_in_use(binomials: &[u32; 625], rings: usize, board: [u8; 24]) -> usize
-    requires binomial_table { BinomialTable binomials.now }
-    requires rings_bound { (rings ≤ 3) × Values board }
+fn rank_in_use(rings: usize, board: [u8; 24]) -> usize
+    requires { (rings ≤ 3) × Values board }
     ensures { result ≡ rank (in_use rings board) }
 {
     let points = 8 * rings;
     let position = board::position_of(&board[..points]);
-    ranking::rank(binomials, points, position)
+    ranking::rank(points, position)
 }
 
 // The least image of a whole board, which is its own image under symmetry 0. The rank of the least so far is carried beside it.
-fn least_image(binomials: &[u32; 625], rings: usize, board: [u8; 24]) -> [u8; 24]
-    requires binomial_table { BinomialTable binomials.now }
-    requires rings_bound { (rings ≤ 3) × Values board }
+fn least_image(rings: usize, board: [u8; 24]) -> [u8; 24]
+    requires { (rings ≤ 3) × Values board }
     ensures { result ≡ least_image rings board symmetries }
 {
     let mut best = board;
-    let mut least = rank_in_use(binomials, rings, board);
-    let mut g = 1;
-    while g < SYMMETRIES {
+    let mut least = rank_in_use(rings, board);
+    for g in 1..SYMMETRIES {
         let next = image(rings, g, board);
-        let rank = rank_in_use(binomials, rings, next);
+        let rank = rank_in_use(rings, next);
         if rank < least {
             best = next;
             least = rank;
         }
-        g += 1;
     }
     best
 }
 
 // The rank of the representative of a board's class.
-pub fn representative_rank(binomials: &[u32; 625], rings: usize, board: &[u8]) -> usize
-    requires binomial_table { BinomialTable binomials.now }
-    requires rings_bound { (rings ≤ 3) × (length board.now ≡ 8 * rings) × Values board.now }
+pub fn representative_rank(rings: usize, board: &[u8]) -> usize
+    requires { (rings ≤ 3) × (length board.now ≡ 8 * rings) × Values board.now }
     ensures { result ≡ rank (representative rings board.now) }
 {
     let points = whole(board);
-    let least = least_image(binomials, rings, points);
-    rank_in_use(binomials, rings, least)
+    let least = least_image(rings, points);
+    rank_in_use(rings, least)
 }

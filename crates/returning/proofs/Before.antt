@@ -183,6 +183,6 @@ module _ (rings : ℕ) (position : Position) (placed : Placed rings position) wh
         }
 
 -- the positions before a ply, in a tablebase of the same length
-pub returning_same : {lent : List ℕ} {n m rings : ℕ} {back : Back} {position : Position} → Returning lent n rings back position → n ≡ m
-    → Returning lent m rings back position
-returning_same {lent} {n} {m} {rings} {back} {position} w e = subst (λ (k : ℕ). Returning lent k rings back position) e w
+pub returning_same : {n m rings : ℕ} {back : Back} {position : Position} → Returning n rings back position → n ≡ m
+    → Returning m rings back position
+returning_same {n} {m} {rings} {back} {position} w e = subst (λ (k : ℕ). Returning k rings back position) e w

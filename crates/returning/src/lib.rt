@@ -23,14 +23,13 @@ pub struct Back {
 // Marks the positions in which the stone at one point stood at another; where a stone was removed, with that stone at each other vacant point.
 fn mark_origin(
     tablebase: &mut [u16],
-    binomials: &[u32; 625],
     rings: usize,
     back: Back,
     position: board::Position,
     to: usize,
     from: usize,
 )
-    requires returning { Returning binomials.now (length tablebase.old) rings back position }
+    requires returning { Returning (length tablebase.old) rings back position }
     requires to_value { (bit position.opponent to ≡ 1) × VacantAt rings position from }
     ensures { tablebase.new
         ≡ marked (places back.part.start (restored back.capture rings (board_of (8 * rings) position) to from)) tablebase.old }
@@ -42,23 +41,22 @@ fn mark_origin(
     };
     if back.capture {
         let vacant = sets::without(board::vacant(8 * rings, position), from);
-        marks::mark_put(tablebase, binomials, rings, back.part, before, true, vacant);
+        marks::mark_put(tablebase, rings, back.part, before, true, vacant);
     } else {
-        marks::mark_position(tablebase, binomials, rings, back.part, before);
+        marks::mark_position(tablebase, rings, back.part, before);
     }
 }
 
 // Marks the positions in which the stone at one point stood at any of some vacant points, one after the other.
 fn mark_each_origin(
     tablebase: &mut [u16],
-    binomials: &[u32; 625],
     rings: usize,
     back: Back,
     position: board::Position,
     to: usize,
     froms: u32,
 )
-    requires returning { Returning binomials.now (length tablebase.old) rings back position }
+    requires returning { Returning (length tablebase.old) rings back position }
     requires to_value { (bit position.opponent to ≡ 1) × VacantAll rings position froms }
     ensures { tablebase.new
         ≡ marked (places back.part.start (each (λ from. restored back.capture rings (board_of (8 * rings) position) to from)
@@ -67,7 +65,7 @@ fn mark_each_origin(
     let mut left = froms;
     while left != 0 {
         let from = sets::take_lowest(left);
-        mark_origin(tablebase, binomials, rings, back, position, to, from.lowest);
+        mark_origin(tablebase, rings, back, position, to, from.lowest);
         left = from.rest;
     }
 }
@@ -75,26 +73,25 @@ fn mark_each_origin(
 // Marks the positions in which the stone at one point stood at any of some vacant points.
 pub fn mark_origins(
     tablebase: &mut [u16],
-    binomials: &[u32; 625],
     rings: usize,
     back: Back,
     position: board::Position,
     to: usize,
     froms: u32,
 )
-    requires returning { Returning binomials.now (length tablebase.old) rings back position }
+    requires returning { Returning (length tablebase.old) rings back position }
     requires to_value { (bit position.opponent to ≡ 1) × VacantAll rings position froms }
     ensures { tablebase.new
         ≡ marked (places back.part.start (each (λ from. restored back.capture rings (board_of (8 * rings) position) to from)
         (elements 32 froms))) tablebase.old }
 {
     if back.capture | (sets::count(froms) <= inserting::WALK_PAYS_ABOVE) {
-        mark_each_origin(tablebase, binomials, rings, back, position, to, froms);
+        mark_each_origin(tablebase, rings, back, position, to, froms);
     } else {
         let lifted = board::Position {
             mover: sets::without(position.opponent, to),
             opponent: position.mover,
         };
-        marks::mark_put(tablebase, binomials, rings, back.part, lifted, false, froms);
+        marks::mark_put(tablebase, rings, back.part, lifted, false, froms);
     }
 }

@@ -4,11 +4,10 @@
 ghost use Rattle.std.specs.Prelude.{◌≡◌, ◌+◌, ◌*◌, ◌≤◌, ◌<◌};
 ghost use Rattle.board.specs.Board.{position_of};
 ghost use Rattle.sizes.specs.Size.{size};
-ghost use Rattle.sizes.specs.Inner.Binomial.{BinomialTable};
 ghost use Rattle.ranking.specs.Unrank.{unrank};
 ghost use Rattle.seeking.specs.Inner.Cursors.{Stands};
 
-// A rank and its position. A rank above all that are sought stands for none yet.
+// A rank and its position. A rank above all that are sought stands for none yet, so that one test tells whether to step on or to unrank.
 #[derive(Clone, Copy)]
 pub struct Cursor {
     pub rank: usize,
@@ -29,15 +28,7 @@ pub fn nowhere(size: usize) -> Cursor
 }
 
 // The position of rank r.
-pub fn seek(
-    binomials: &[u32; 625],
-    rings: usize,
-    mover: usize,
-    opponent: usize,
-    cursor: Cursor,
-    r: usize,
-) -> Cursor
-    requires binomial_table { BinomialTable binomials.now }
+pub fn seek(rings: usize, mover: usize, opponent: usize, cursor: Cursor, r: usize) -> Cursor
     requires rings_bound { (rings ≤ 3) × (r < size (8 * rings) mover opponent) }
     requires stands { Stands rings mover opponent (r + 1) cursor }
     ensures { (result.rank ≡ r) × (result.position ≡ position_of (unrank (8 * rings) mover opponent r)) }
@@ -46,19 +37,11 @@ pub fn seek(
     if known <= r {
         return Cursor {
             rank: r,
-            position: stepping::advance(
-                binomials,
-                8 * rings,
-                mover,
-                opponent,
-                cursor.position,
-                known,
-                r,
-            ),
+            position: stepping::advance(8 * rings, mover, opponent, cursor.position, known, r),
         };
     }
     Cursor {
         rank: r,
-        position: ranking::unrank(binomials, 8 * rings, mover, opponent, r),
+        position: ranking::unrank(8 * rings, mover, opponent, r),
     }
 }

@@ -8,14 +8,14 @@ ghost use Rattle.text.specs.Inner.Room.{most_bytes};
 ghost use Rattle.keeping.specs.Kept.{most_kept};
 ghost use Rattle.fields.specs.Fields.{largest_count, desk_edition};
 
-use morris::Solved;
+use morris::Refusal;
 use std::io;
 
 // The limit of the fill, in plies.
 const DESK_LIMIT: u32 = 2000;
 
 // The one-ring tablebase is filled.
-fn fill_tablebase(tablebase: &mut [u16]) -> Solved
+fn fill_tablebase(tablebase: &mut [u16]) -> Result<(), Refusal>
     ensures { FillCall 1 desk_edition largest_count 2000 tablebase.old tablebase.new (solved result) }
 {
     morris::fill(
@@ -38,7 +38,7 @@ fn serve(
     requires held_len { length held.old ≡ most_kept }
     requires most_bytes_in_bounds { (most_bytes ≤ length out.old) × (most_bytes * length block.old ≤ length out.old) }
 {
-    fill_tablebase(tablebase);
+    let _ = fill_tablebase(tablebase);
     stream::write_header(rt, out)?;
     stream::answer_input(rt, tablebase, block, held, out)
 }

@@ -4,7 +4,7 @@
 ghost use Rattle.std.specs.Prelude.{◌≡◌, ◌+◌, ◌-◌, ◌≤◌, length};
 ghost use Rattle.rules.specs.Ply.{removable};
 ghost use Rattle.finding.specs.Inner.Finding.{First};
-ghost use Rattle.probing.specs.Inner.Conditions.{Lent};
+ghost use Rattle.masks.specs.Inner.Masks.{Masks};
 ghost use Rattle.settling.specs.Inner.Settled.{Sweeping, AtMark, is_marked, judged_class};
 
 use classing::Maps;
@@ -22,17 +22,9 @@ pub struct Sweep {
 }
 
 // Judges the marked position that the cursor stands at.
-pub fn judge_place(
-    tablebase: &mut [u16],
-    binomials: &[u32; 625],
-    masks: &[u32; 72],
-    images: &[u8; 2048],
-    maps: Maps,
-    sweep: Sweep,
-    at: Cursor,
-)
-    requires lent { Lent maps.rings binomials.now masks.now }
-    requires sweeping { Sweeping images.now (length tablebase.old) maps sweep × AtMark maps.rings sweep.table tablebase.old at }
+pub fn judge_place(tablebase: &mut [u16], masks: &[u32; 72], maps: Maps, sweep: Sweep, at: Cursor)
+    requires masks { Masks maps.rings masks.now }
+    requires sweeping { Sweeping (length tablebase.old) maps sweep × AtMark maps.rings sweep.table tablebase.old at }
     ensures { tablebase.new
         ≡ judged_class (removable sweep.edition) maps.rings sweep.table sweep.same sweep.level maps.count
         tablebase.old at.rank }
@@ -43,7 +35,6 @@ pub fn judge_place(
     let level = sweep.level;
     if judging::hits(
         tablebase,
-        binomials,
         masks,
         maps.rings,
         sweep.edition,
@@ -54,13 +45,13 @@ pub fn judge_place(
         level as u32,
         at.position,
     ) {
-        classing::write_images(tablebase, binomials, images, maps, own, at.position, level);
+        classing::write_images(tablebase, maps, own, at.position, level);
         return;
     }
     parts::write_entry(tablebase, own, at.rank, DRAW);
 }
 
-// The first marked rank from r on, or the size.
+// The first marked rank from r on, or the size, which ends the loop over them.
 pub fn find_mark(tablebase: &[u16], table: Table, r: usize) -> usize
     requires { (table.own.start + r ≤ table.own.end) × (table.own.end ≤ length tablebase.now) }
     ensures { First (is_marked table tablebase.now) r (table.own.end - table.own.start) result }

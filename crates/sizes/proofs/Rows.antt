@@ -1,6 +1,6 @@
 -- A table of 25 rows of 25 that passes Pascal's test holds the binomials: the test is computed once over the whole table and carried to each entry.
 -- Then each entry is its quotient of factorials, and zero where the column is above the row. Assumes nothing.
-use mathlib.Core.Path.{◌≡◌, sym, ap, ap₂, ◌∙◌}
+use mathlib.Core.Path.{◌≡◌, refl, sym, ap, ap₂, ◌∙◌}
 use mathlib.Core.Bool.{Bool, true}
 use mathlib.Core.List.{List}
 use Prim.Native.Nat.{ℕ, zero, suc, ◌+◌, ◌*◌, ◌-◌, ◌/◌, ◌≤◌, ◌<◌}
@@ -11,6 +11,7 @@ use borrow.Author.Tests.{eqb-true}
 use Rattle.lists.proofs.Table.{every, every_at, every_two, every_two_lem}
 use Rattle.sizes.specs.Size.{factorial}
 use Rattle.sizes.specs.Inner.Binomial.{binomial, BinomialTable}
+use Rattle.sizes.specs.declared.table.TheConstants.{BINOMIALS}
 use Rattle.sizes.proofs.Binomials.{binomial_zero, binomial_none, pascal, binomial_over, binomial_quotient}
 
 module _ (t : List ℕ) where
@@ -45,3 +46,7 @@ module _ (t : List ℕ) where
 
   pub entry_over : BinomialTable t → (n k : ℕ) → n < k → k < 25 → get_or t (25 * n + k) 0 ≡ 0
   entry_over table n k h l = table.at n k (omega arith) l ∙ binomial_over n k h
+
+-- Pascal's test, computed once over the constant table
+pub binomials : BinomialTable BINOMIALS
+binomials = pascal_table BINOMIALS refl refl refl

@@ -1,7 +1,7 @@
 // The constant table of binomials (document 02, A4).
 
 // Row n and column k from 0 to 24, one row after the other; zero where k is above n.
-pub const BINOMIALS: [u32; 625] = [
+pub static BINOMIALS: [u32; 625] = [
     // Row 0.
     1, 0, 0, 0, 0, 0, 0, 0, 0, 0, 0, 0, 0, 0, 0, 0, 0, 0, 0, 0, 0, 0, 0, 0, 0,
     // Row 1.

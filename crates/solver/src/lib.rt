@@ -5,11 +5,11 @@ ghost use Rattle.std.specs.Prelude.{◌≡◌, ◌+◌, length};
 ghost use Rattle.rules.specs.Ply.{removable};
 ghost use Rattle.invariance.specs.Symmetric.{LowerSymmetric};
 ghost use Rattle.invariance.specs.Inner.Used.{Used};
-ghost use Rattle.probing.specs.Inner.Conditions.{Lent};
-ghost use Rattle.filling.specs.Inner.Solve.{PairFill};
+ghost use Rattle.masks.specs.Inner.Masks.{Masks};
+ghost use Rattle.filling.specs.Inner.Solve.{PairFill, deep_of};
 ghost use Rattle.solver.specs.Inner.Solve.{PairGiven, RowGiven, AllGiven, PairsFilled, WholeFill};
 
-use filling::Bounds;
+use filling::{Bounds, TooDeep};
 use pairs::Tables;
 use parts::{Part, VOID};
 
@@ -20,32 +20,28 @@ pub struct Counts {
     pub opponent: usize,
 }
 
-// Fills the pair of tables with these counts by a number of maps under which its lower tables are symmetric, or answers that some position is too deep
-// and leaves both tables void.
+// Fills the pair of tables with these counts by a number of maps under which its lower tables are symmetric. Where some position is too deep both are
+// left void.
 pub fn solve_pair(
     tablebase: &mut [u16],
-    binomials: &[u32; 625],
     masks: &[u32; 72],
-    images: &[u8; 2048],
     bounds: Bounds,
     maps: usize,
     counts: Counts,
-) -> bool
-    requires lent { Lent bounds.rings binomials.now masks.now }
-    requires pair_given { PairGiven images.now tablebase.old bounds counts × Used maps
+) -> Result<(), TooDeep>
+    requires masks { Masks bounds.rings masks.now }
+    requires pair_given { PairGiven tablebase.old bounds counts × Used maps
         × LowerSymmetric maps bounds.rings bounds.k counts.mover counts.opponent tablebase.old }
     ensures { PairFill (removable bounds.edition) bounds.rings bounds.k counts.mover counts.opponent bounds.limit
         tablebase.old
-        tablebase.new result }
+        tablebase.new (deep_of result) }
 {
     let points = 8 * bounds.rings;
-    let first = tables::table_of(binomials, points, bounds.k, counts.mover, counts.opponent);
-    let second = tables::table_of(binomials, points, bounds.k, counts.opponent, counts.mover);
+    let first = tables::table_of(points, bounds.k, counts.mover, counts.opponent);
+    let second = tables::table_of(points, bounds.k, counts.opponent, counts.mover);
     filling::solve_tables(
         tablebase,
-        binomials,
         masks,
-        images,
         bounds,
         maps,
         Tables {
@@ -68,64 +64,47 @@ pub fn all_maps(rings: usize) -> usize
 // The pairs (m, 3), (m, 4), .., (m, m), where all smaller pairs are filled.
 fn solve_row(
     tablebase: &mut [u16],
-    binomials: &[u32; 625],
     masks: &[u32; 72],
-    images: &[u8; 2048],
     bounds: Bounds,
     maps: usize,
     m: usize,
-) -> bool
-    requires lent { Lent bounds.rings binomials.now masks.now }
-    requires row_given { RowGiven images.now tablebase.old bounds maps m }
+) -> Result<(), TooDeep>
+    requires masks { Masks bounds.rings masks.now }
+    requires row_given { RowGiven tablebase.old bounds maps m }
     ensures { (length tablebase.new ≡ length tablebase.old)
-        × PairsFilled (removable bounds.edition) bounds.rings bounds.k bounds.limit (m + 1) 3 tablebase.new result }
+        × PairsFilled (removable bounds.edition) bounds.rings bounds.k bounds.limit (m + 1) 3 tablebase.new (deep_of result) }
 {
-    let mut o = 3;
-    while o <= m {
-        if solve_pair(
+    // An inclusive range leaves one more exit, about which the proof knows too little.
+    for o in 3..m + 1 {
+        solve_pair(
             tablebase,
-            binomials,
             masks,
-            images,
             bounds,
             maps,
             Counts {
                 mover: m,
                 opponent: o,
             },
-        ) {
-            return true;
-        }
-        o += 1;
+        )?;
     }
-    false
+    Ok(())
 }
 
-// Fills a whole tablebase, or answers that some position is too deep and leaves it void.
-pub fn solve_all(
-    tablebase: &mut [u16],
-    binomials: &[u32; 625],
-    masks: &[u32; 72],
-    images: &[u8; 2048],
-    bounds: Bounds,
-) -> bool
-    requires lent { Lent bounds.rings binomials.now masks.now }
-    requires all_given { AllGiven images.now (length tablebase.old) bounds }
+// Fills a whole tablebase. Where some position is too deep it is left void.
+pub fn solve_all(tablebase: &mut [u16], masks: &[u32; 72], bounds: Bounds) -> Result<(), TooDeep>
+    requires masks { Masks bounds.rings masks.now }
+    requires all_given { AllGiven (length tablebase.old) bounds }
     ensures { WholeFill (removable bounds.edition) bounds.rings bounds.k bounds.limit tablebase.old
-        tablebase.new result }
+        tablebase.new (deep_of result) }
 {
     let maps = all_maps(bounds.rings);
     let k = bounds.k;
-    let mut deep = false;
-    let mut m = 3;
-    while (m <= k) & !deep {
-        deep = solve_row(tablebase, binomials, masks, images, bounds, maps, m);
-        m += 1;
+    for m in 3..k + 1 {
+        if let Err(deep) = solve_row(tablebase, masks, bounds, maps, m) {
+            let end = tablebase.len();
+            parts::fill_table(tablebase, Part { start: 0, end: end }, VOID);
+            return Err(deep);
+        }
     }
-    if deep {
-        let end = tablebase.len();
-        parts::fill_table(tablebase, Part { start: 0, end: end }, VOID);
-        return true;
-    }
-    false
+    Ok(())
 }

@@ -4,7 +4,6 @@
 ghost use Rattle.std.specs.Prelude.{◌≡◌, suc, ◌+◌, ◌-◌, ◌*◌, ◌/◌, ◌^◌, ◌≤◌, ◌<◌};
 ghost use Rattle.board.specs.Board.{count, board_of, position_of, OnBoard};
 ghost use Rattle.sizes.specs.Size.{size};
-ghost use Rattle.sizes.specs.Inner.Binomial.{BinomialTable};
 ghost use Rattle.ranking.specs.Rank.{rank};
 ghost use Rattle.ranking.specs.Unrank.{unrank};
 ghost use Rattle.stepping.specs.Inner.Ends.{Ends};
@@ -71,7 +70,6 @@ const STEPS: usize = 20;
 
 // The position of a rank from that of a lower rank: by steps where they are few.
 pub fn advance(
-    binomials: &[u32; 625],
     points: usize,
     mover: usize,
     opponent: usize,
@@ -79,19 +77,16 @@ pub fn advance(
     known: usize,
     rank: usize,
 ) -> Position
-    requires binomial_table { BinomialTable binomials.now }
     requires points_bound { (points ≤ 24) × (known ≤ rank) × (rank < size points mover opponent) }
     requires position_value { position ≡ position_of (unrank points mover opponent known) }
     ensures { result ≡ position_of (unrank points mover opponent rank) }
 {
     if STEPS < rank - known {
-        return ranking::unrank(binomials, points, mover, opponent, rank);
+        return ranking::unrank(points, mover, opponent, rank);
     }
     let mut at = position;
-    let mut i = known;
-    while i < rank {
+    for _ in known..rank {
         at = next(points, at);
-        i += 1;
     }
     at
 }

@@ -2,21 +2,14 @@
 // the session ends there: no other error comes, and the buffers keep their lengths.
 #![tactic(auto)]
 
-ghost use Rattle.std.specs.Prelude.{◌≡◌, ◌*◌, ◌≤◌, ◌<◌, length, IfOk};
+ghost use Rattle.std.specs.Prelude.{◌≡◌, ◌*◌, ◌≤◌, length, IfOk, IfSome};
 ghost use Rattle.text.specs.Inner.Room.{most_bytes};
 ghost use Rattle.keeping.specs.Kept.{most_kept};
 
 use std::io;
 use std::io::{Read, Write};
 
-// After a block: how many bytes are kept of a line that is not yet ended, and whether to go on.
-#[derive(Clone, Copy)]
-struct After {
-    kept: usize,
-    more: bool,
-}
-
-// One block is read, and the lines that it ends are answered.
+// One block is read, and the lines that it ends are answered: how many bytes are kept of a line that is not yet ended, or none at the end of the input.
 fn answer_block(
     rt: &HostRuntime,
     tablebase: &[u16],
@@ -24,26 +17,23 @@ fn answer_block(
     held: &mut [u8],
     kept: usize,
     out: &mut [u8],
-) -> io::Result<After>
+) -> io::Result<Option<usize>>
     requires held_len { (length held.old ≡ most_kept) × (kept ≤ most_kept) }
     requires block_in_bounds { most_bytes * length block.old ≤ length out.old }
-    ensures kept { IfOk result (λ after. after.kept ≤ most_kept) }
+    ensures kept { IfOk result (λ left. IfSome left (λ kept. kept ≤ most_kept)) }
     ensures block { length block.new ≡ length block.old }
     ensures held { length held.new ≡ length held.old }
     ensures out { length out.new ≡ length out.old }
 {
     let count = rt.stdin().read(block)?;
     if count == 0 {
-        return Ok(After { kept, more: false });
+        return Ok(None);
     }
     let fed = lines::feed(tablebase, &block[..count], held, kept, out);
     let left = fed.kept;
     let used = fed.used;
     rt.stdout().write_all(&out[..used])?;
-    Ok(After {
-        kept: left,
-        more: true,
-    })
+    Ok(Some(left))
 }
 
 // At the end of the input the last line is answered, where it has no line feed.
@@ -62,15 +52,7 @@ fn answer_last(
     rt.stdout().write_all(&out[..used])
 }
 
-// How many blocks may still be read: fewer, and none where the input has ended.
-fn blocks_left(blocks: u64, more: bool) -> u64
-    requires { 0 < blocks }
-    ensures { result < blocks }
-{
-    if more { blocks - 1 } else { 0 }
-}
-
-// All of the input. A loop has to end, and nothing says that the input does: the blocks are counted down from the largest number.
+// All of the input. A loop has to end, and nothing says that the input does: the blocks are counted up to the largest number.
 pub fn answer_input(
     rt: &HostRuntime,
     tablebase: &[u16],
@@ -82,11 +64,11 @@ pub fn answer_input(
     requires most_bytes_in_bounds { (most_bytes ≤ length out.old) × (most_bytes * length block.old ≤ length out.old) }
 {
     let mut kept: usize = 0;
-    let mut blocks = u64::MAX;
-    while 0 < blocks {
-        let after = answer_block(rt, tablebase, block, held, kept, out)?;
-        kept = after.kept;
-        blocks = blocks_left(blocks, after.more);
+    for _ in 0..u64::MAX {
+        let Some(left) = answer_block(rt, tablebase, block, held, kept, out)? else {
+            break;
+        };
+        kept = left;
     }
     answer_last(rt, tablebase, held, kept, out)
 }

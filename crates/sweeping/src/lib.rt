@@ -6,7 +6,7 @@ ghost use Rattle.std.specs.Prelude.{◌≡◌, ◌*◌, ◌<◌, length};
 ghost use Rattle.sizes.specs.Size.{size};
 ghost use Rattle.rules.specs.Ply.{removable};
 ghost use Rattle.classing.specs.Inner.Classes.{least_of_class};
-ghost use Rattle.probing.specs.Inner.Conditions.{Lent};
+ghost use Rattle.masks.specs.Inner.Masks.{Masks};
 ghost use Rattle.settling.specs.Inner.Settled.{Sweeping, judged_first};
 ghost use Rattle.sweeping.specs.Inner.Levels.{CountsFit, level_by_classes};
 
@@ -16,16 +16,9 @@ use returning::Back;
 use settling::Sweep;
 
 // Judges the marked positions of a table.
-fn judge_marked(
-    tablebase: &mut [u16],
-    binomials: &[u32; 625],
-    masks: &[u32; 72],
-    images: &[u8; 2048],
-    maps: Maps,
-    sweep: Sweep,
-)
-    requires lent { Lent maps.rings binomials.now masks.now }
-    requires sweeping { Sweeping images.now (length tablebase.old) maps sweep }
+fn judge_marked(tablebase: &mut [u16], masks: &[u32; 72], maps: Maps, sweep: Sweep)
+    requires masks { Masks maps.rings masks.now }
+    requires sweeping { Sweeping (length tablebase.old) maps sweep }
     ensures { tablebase.new
         ≡ judged_first (removable sweep.edition) maps.rings sweep.table sweep.same sweep.level maps.count tablebase.old
         (size (8 * maps.rings) sweep.table.mover sweep.table.opponent) }
@@ -36,23 +29,16 @@ fn judge_marked(
     let mut at = seeking::nowhere(size);
     let mut r = settling::find_mark(tablebase, table, 0);
     while r < size {
-        at = seeking::seek(binomials, maps.rings, table.mover, table.opponent, at, r);
-        settling::judge_place(tablebase, binomials, masks, images, maps, sweep, at);
+        at = seeking::seek(maps.rings, table.mover, table.opponent, at, r);
+        settling::judge_place(tablebase, masks, maps, sweep, at);
         r = settling::find_mark(tablebase, table, r + 1);
     }
 }
 
 // A level above 0 over a table.
-pub fn level_table(
-    tablebase: &mut [u16],
-    binomials: &[u32; 625],
-    masks: &[u32; 72],
-    images: &[u8; 2048],
-    maps: Maps,
-    sweep: Sweep,
-)
-    requires lent { Lent maps.rings binomials.now masks.now }
-    requires sweeping { Sweeping images.now (length tablebase.old) maps sweep × CountsFit sweep.table × (0 < sweep.level) }
+pub fn level_table(tablebase: &mut [u16], masks: &[u32; 72], maps: Maps, sweep: Sweep)
+    requires masks { Masks maps.rings masks.now }
+    requires sweeping { Sweeping (length tablebase.old) maps sweep × CountsFit sweep.table × (0 < sweep.level) }
     ensures { tablebase.new
         ≡ level_by_classes (removable sweep.edition) maps.rings sweep.table sweep.same sweep.level maps.count
         (least_of_class maps.rings maps.count) tablebase.old }
@@ -63,9 +49,7 @@ pub fn level_table(
     let depth = sweep.level - 1;
     layers::mark_table(
         tablebase,
-        binomials,
         masks,
-        images,
         maps,
         Back {
             part: own,
@@ -83,9 +67,7 @@ pub fn level_table(
     let fewer = table.opponent - 1;
     layers::mark_table(
         tablebase,
-        binomials,
         masks,
-        images,
         maps,
         Back {
             part: own,
@@ -100,5 +82,5 @@ pub fn level_table(
             depth: depth,
         },
     );
-    judge_marked(tablebase, binomials, masks, images, maps, sweep);
+    judge_marked(tablebase, masks, maps, sweep);
 }

@@ -1,13 +1,14 @@
 // The first refusal that a tablebase meets, with a board, to be checked or to be filled.
 #![tactic(auto)]
 
-ghost use Rattle.std.specs.Prelude.{◌≡◌, ◌≤◌};
+ghost use Rattle.std.specs.Prelude.{◌≡◌, ◌≤◌, [], ◌∷◌};
 ghost use Rattle.sets.specs.Sets.{members};
-ghost use Rattle.sizes.specs.Inner.Binomial.{BinomialTable};
-ghost use Rattle.refusals.specs.Refusals.{refusal};
+ghost use Rattle.answers.specs.Answers.{met};
+ghost use Rattle.refusals.specs.Refusals.{pick, wrong_limit, refusal};
 ghost use Rattle.refusals.specs.Conditions.{count_above, largest_wrong, tablebase_wrong, limit_wrong};
-ghost use Rattle.refusals.specs.Conditions.{largest_picks, tablebase_picks, check_picks, limit_picks, fill_picks, tables_picks};
+ghost use Rattle.refusals.specs.Conditions.{largest_picks, tablebase_picks, check_picks, fill_picks, tables_picks};
 
+use answers::Refusal;
 use board::Position;
 
 // The highest limit, in plies.
@@ -39,109 +40,73 @@ fn largest_wrong(k: u8, above: bool) -> bool
 }
 
 // The length of a tablebase not exact.
-fn tablebase_wrong(binomials: &[u32; 625], rings: u8, k: u8, length: usize) -> bool
-    requires binomial_table { BinomialTable binomials.now }
-    requires rings_bound { (rings ≤ 3) × (3 ≤ k) × (k ≤ 9) }
+fn tablebase_wrong(rings: u8, k: u8, length: usize) -> bool
+    requires { (rings ≤ 3) × (3 ≤ k) × (k ≤ 9) }
     ensures { result ≡ tablebase_wrong rings k length }
 {
-    length != layout::tablebase_length(binomials, 8 * rings as usize, k as usize)
+    length != layout::tablebase_length(8 * rings as usize, k as usize)
 }
 
-// A limit above the highest.
-fn limit_wrong(limit: u32) -> bool
-    ensures { result ≡ limit_wrong limit }
+// The refusal of a limit above the highest.
+fn of_limit(limit: u32) -> Result<(), Refusal>
+    ensures { met result ≡ refusal (pick wrong_limit (limit_wrong limit) ∷ []) }
 {
-    LARGEST_LIMIT < limit
+    if LARGEST_LIMIT < limit {
+        return Err(Refusal::Limit);
+    }
+    Ok(())
 }
 
-// The first refusal that K and a tablebase of so many entries meet, or 0.
-fn of_largest(binomials: &[u32; 625], rings: u8, k: u8, above: bool, length: usize) -> u8
-    requires binomial_table { BinomialTable binomials.now }
-    requires rings_bound { rings ≤ 3 }
-    ensures { result ≡ refusal (largest_picks rings k above length) }
+// The first refusal that K and a tablebase of so many entries meet.
+fn of_largest(rings: u8, k: u8, above: bool, length: usize) -> Result<(), Refusal>
+    requires { rings ≤ 3 }
+    ensures { met result ≡ refusal (largest_picks rings k above length) }
 {
     if largest_wrong(k, above) {
-        return refusals::LARGEST;
+        return Err(Refusal::Largest);
     }
-    if tablebase_wrong(binomials, rings, k, length) {
-        return refusals::TABLEBASE_LENGTH;
+    if tablebase_wrong(rings, k, length) {
+        return Err(Refusal::InexactLength);
     }
-    0
+    Ok(())
 }
 
-// The first refusal that rings, an edition, a board that a game must reach, K and a tablebase of so many entries meet, or 0.
+// The first refusal that rings, an edition, a board that a game must reach, K and a tablebase of so many entries meet.
 pub fn of_tablebase(
-    binomials: &[u32; 625],
     rings: u8,
     edition: u8,
     board: &[u8],
     k: u8,
     length: usize,
-) -> u8
-    requires { BinomialTable binomials.now }
-    ensures { result ≡ refusal (tablebase_picks rings edition board.now k length) }
+) -> Result<(), Refusal>
+    ensures { met result ≡ refusal (tablebase_picks rings edition board.now k length) }
 {
-    let refusal = board_refusals::of_ruled(rings, edition, board);
-    if refusal != 0 {
-        return refusal;
-    }
+    board_refusals::of_ruled(rings, edition, board)?;
     let position = board::position_of(board);
     if reachability::unreachable(rings, edition, position) {
-        return refusals::UNREACHABLE;
+        return Err(Refusal::Unreachable);
     }
-    of_largest(binomials, rings, k, stones_above(k, position), length)
+    of_largest(rings, k, stones_above(k, position), length)
 }
 
-// The first refusal that a call to check a tablebase meets, or 0.
-pub fn of_check(binomials: &[u32; 625], rings: u8, edition: u8, k: u8, length: usize) -> u8
-    requires { BinomialTable binomials.now }
-    ensures { result ≡ refusal (check_picks rings edition k length) }
+// The first refusal that a call to check a tablebase meets.
+pub fn of_check(rings: u8, edition: u8, k: u8, length: usize) -> Result<(), Refusal>
+    ensures { met result ≡ refusal (check_picks rings edition k length) }
 {
-    let first = board_refusals::of_edition(rings, edition);
-    if first != 0 {
-        return first;
-    }
-    of_largest(binomials, rings, k, false, length)
+    board_refusals::of_edition(rings, edition)?;
+    of_largest(rings, k, false, length)
 }
 
-// The first refusal that K, a limit and a tablebase of so many entries to fill meet, or 0.
-fn of_limit(binomials: &[u32; 625], rings: u8, k: u8, above: bool, limit: u32, length: usize) -> u8
-    requires binomial_table { BinomialTable binomials.now }
-    requires rings_bound { rings ≤ 3 }
-    ensures { result ≡ refusal (limit_picks rings k above limit length) }
+// The first refusal that a call to fill a tablebase meets.
+pub fn of_fill(rings: u8, edition: u8, k: u8, limit: u32, length: usize) -> Result<(), Refusal>
+    ensures { met result ≡ refusal (fill_picks rings edition k limit length) }
 {
-    let refusal = of_largest(binomials, rings, k, above, length);
-    if refusal != 0 {
-        return refusal;
-    }
-    if limit_wrong(limit) {
-        return refusals::LIMIT;
-    }
-    0
+    of_check(rings, edition, k, length)?;
+    of_limit(limit)
 }
 
-// The first refusal that a call to fill a tablebase meets, or 0.
-pub fn of_fill(
-    binomials: &[u32; 625],
-    rings: u8,
-    edition: u8,
-    k: u8,
-    limit: u32,
-    length: usize,
-) -> u8
-    requires { BinomialTable binomials.now }
-    ensures { result ≡ refusal (fill_picks rings edition k limit length) }
-{
-    let refusal = board_refusals::of_edition(rings, edition);
-    if refusal != 0 {
-        return refusal;
-    }
-    of_limit(binomials, rings, k, false, limit, length)
-}
-
-// The first refusal that a call to fill a pair of tables meets before the lower tables are read, or 0.
+// The first refusal that a call to fill a pair of tables meets before the lower tables are read.
 pub fn of_pair(
-    binomials: &[u32; 625],
     rings: u8,
     edition: u8,
     mover: u8,
@@ -149,18 +114,12 @@ pub fn of_pair(
     k: u8,
     limit: u32,
     length: usize,
-) -> u8
-    requires { BinomialTable binomials.now }
-    ensures { result ≡ refusal (tables_picks rings edition mover opponent k limit length) }
+) -> Result<(), Refusal>
+    ensures { met result ≡ refusal (tables_picks rings edition mover opponent k limit length) }
 {
-    let ruled = board_refusals::of_edition(rings, edition);
-    if ruled != 0 {
-        return ruled;
-    }
-    let refusal = board_refusals::of_stones(rings, mover, opponent);
-    if refusal != 0 {
-        return refusal;
-    }
     let above = count_above(k as u32, mover as u32, opponent as u32);
-    of_limit(binomials, rings, k, above, limit, length)
+    board_refusals::of_edition(rings, edition)?;
+    board_refusals::of_stones(rings, mover, opponent)?;
+    of_largest(rings, k, above, length)?;
+    of_limit(limit)
 }

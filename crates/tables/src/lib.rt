@@ -3,7 +3,6 @@
 
 ghost use Rattle.std.specs.Prelude.{◌≡◌, ◌*◌, ◌≤◌};
 ghost use Rattle.board.specs.Board.{count, board_of};
-ghost use Rattle.sizes.specs.Inner.Binomial.{BinomialTable};
 ghost use Rattle.layout.specs.Layout.{start, end};
 ghost use Rattle.plies.specs.Inner.Positions.{Placed};
 ghost use Rattle.tables.specs.Inner.Tables.{lower_start, lower_end, Located};
@@ -26,50 +25,41 @@ pub struct Starts {
     pub fewer: usize,
 }
 
-fn part_of(binomials: &[u32; 625], points: usize, k: usize, m: usize, o: usize) -> Part
-    requires binomial_table { BinomialTable binomials.now }
-    requires points_bound { (points ≤ 24) × (k ≤ 9) × (3 ≤ m) × (m ≤ k) × (3 ≤ o) × (o ≤ k) }
+fn part_of(points: usize, k: usize, m: usize, o: usize) -> Part
+    requires { (points ≤ 24) × (k ≤ 9) × (3 ≤ m) × (m ≤ k) × (3 ≤ o) × (o ≤ k) }
     ensures { (result.start ≡ start points k m o) × (result.end ≡ end points k m o) }
 {
     Part {
-        start: layout::start(binomials, points, k, m, o),
-        end: layout::end(binomials, points, k, m, o),
+        start: layout::start(points, k, m, o),
+        end: layout::end(points, k, m, o),
     }
 }
 
 // The part of table (o - 1, m), which a removal from (m, o) leads to.
-fn lower_part(binomials: &[u32; 625], points: usize, k: usize, m: usize, o: usize) -> Part
-    requires binomial_table { BinomialTable binomials.now }
-    requires points_bound { (points ≤ 24) × (k ≤ 9) × (3 ≤ m) × (m ≤ k) × (3 ≤ o) × (o ≤ k) }
+fn lower_part(points: usize, k: usize, m: usize, o: usize) -> Part
+    requires { (points ≤ 24) × (k ≤ 9) × (3 ≤ m) × (m ≤ k) × (3 ≤ o) × (o ≤ k) }
     ensures { (result.start ≡ lower_start points k m o) × (result.end ≡ lower_end points k m o) }
 {
     if o == 3 {
         return Part { start: 0, end: 0 };
     }
-    part_of(binomials, points, k, o - 1, m)
+    part_of(points, k, o - 1, m)
 }
 
-pub fn table_of(binomials: &[u32; 625], points: usize, k: usize, m: usize, o: usize) -> Table
-    requires binomial_table { BinomialTable binomials.now }
-    requires points_bound { (points ≤ 24) × (k ≤ 9) × (3 ≤ m) × (m ≤ k) × (3 ≤ o) × (o ≤ k) }
+pub fn table_of(points: usize, k: usize, m: usize, o: usize) -> Table
+    requires { (points ≤ 24) × (k ≤ 9) × (3 ≤ m) × (m ≤ k) × (3 ≤ o) × (o ≤ k) }
     ensures { Located points k m o result }
 {
     Table {
         mover: m,
         opponent: o,
-        own: part_of(binomials, points, k, m, o),
-        lower: lower_part(binomials, points, k, m, o),
+        own: part_of(points, k, m, o),
+        lower: lower_part(points, k, m, o),
     }
 }
 
 // The sides change names after a ply, so the successors without a removal are in table (o, m).
-pub fn starts_of(
-    binomials: &[u32; 625],
-    rings: usize,
-    k: usize,
-    position: board::Position,
-) -> Starts
-    requires binomial_table { BinomialTable binomials.now }
+pub fn starts_of(rings: usize, k: usize, position: board::Position) -> Starts
     requires placed { Placed rings position }
     requires k_bound { (k ≤ 9) × (3 ≤ count 1 (board_of (8 * rings) position)) × (count 1 (board_of (8 * rings) position) ≤ k)
         × (3 ≤ count 2 (board_of (8 * rings) position)) × (count 2 (board_of (8 * rings) position) ≤ k) }
@@ -78,10 +68,10 @@ pub fn starts_of(
 {
     let m = sets::count(position.mover) as usize;
     let o = sets::count(position.opponent) as usize;
-    let table = table_of(binomials, 8 * rings, k, m, o);
+    let table = table_of(8 * rings, k, m, o);
     let lower = table.lower;
     Starts {
-        same: layout::start(binomials, 8 * rings, k, o, m),
+        same: layout::start(8 * rings, k, o, m),
         fewer: lower.start,
     }
 }

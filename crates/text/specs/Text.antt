@@ -1,9 +1,7 @@
 -- The lines that `desk` prints, as bytes (document 01, "Frames": "Numbers are in base ten"; "A refused line prints `refused` and the number"; the
 -- header and the fields of its sample). Assumes nothing.
-use Rattle.std.specs.Prelude.{cond, List, [], ◌∷◌, ◌++◌, ℕ, zero, suc, ◌/◌, ltb}
+use Rattle.std.specs.Prelude.{cond, List, [], ◌∷◌, ◌++◌, ℕ, zero, suc, ◌/◌, ltb, Option, Some, None}
 use Rattle.io.specs.Digits.{last_digits}
-use Rattle.text.specs.declared.Field.{Field}
-use Rattle.text.specs.declared.Field.TheVariants.{Number, Absent}
 
 -- how many digits n takes in base ten, found in so many steps; n steps are always enough
 unfoldable pub digit_count : ℕ → ℕ → ℕ
@@ -24,19 +22,19 @@ abbrev pub dash : ℕ
 dash = 45
 
 -- a number, or `-`
-unfoldable pub shown : Field → List ℕ
-shown (Number n) = decimal n
-shown Absent = dash ∷ []
+unfoldable pub shown : Option ℕ → List ℕ
+shown (Some n) = decimal n
+shown None = dash ∷ []
 
 -- a field, and the byte that stands after it
-unfoldable pub item : Field → ℕ → List ℕ
+unfoldable pub item : Option ℕ → ℕ → List ℕ
 item field after = shown field ++ (after ∷ [])
 
 -- the line of an accepted frame: rings, the two stone counts, rank, entry and best move
-unfoldable pub position_line : ℕ → ℕ → ℕ → ℕ → Field → Field → List ℕ
+unfoldable pub position_line : ℕ → ℕ → ℕ → ℕ → Option ℕ → Option ℕ → List ℕ
 position_line rings mover opponent rank entry move =
-    item (Number rings) space
-    ++ (item (Number mover) space ++ (item (Number opponent) space ++ (item (Number rank) space ++ (item entry space ++ item move line_feed))))
+    item (Some rings) space
+    ++ (item (Some mover) space ++ (item (Some opponent) space ++ (item (Some rank) space ++ (item entry space ++ item move line_feed))))
 
 -- `refused` and a space
 abbrev pub refused_word : List ℕ
@@ -44,7 +42,7 @@ refused_word = 114 ∷ 101 ∷ 102 ∷ 117 ∷ 115 ∷ 101 ∷ 100 ∷ space ∷
 
 -- the line of a refused frame: `refused` and the number
 unfoldable pub refused_line : ℕ → List ℕ
-refused_line number = refused_word ++ item (Number number) line_feed
+refused_line number = refused_word ++ item (Some number) line_feed
 
 -- the header: `rings mover opponent rank entry move`
 unfoldable pub header : List ℕ

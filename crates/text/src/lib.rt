@@ -1,5 +1,5 @@
 // Numbers in base ten and the lines that `desk` prints, written into a lent buffer from a place on. Each function answers the place after what it
-// wrote; a line takes 126 bytes at most.
+// wrote; a line takes 126 bytes at most. A field of a line is a number, or `-` for none.
 #![tactic(auto)]
 
 ghost use Rattle.std.specs.Prelude.{◌≡◌, ◌+◌, ◌≤◌, length};
@@ -7,13 +7,6 @@ ghost use Rattle.std.proofs.lemmas.List.Edits.{sets};
 ghost use Rattle.io.specs.Counts.{IsPrefixLen};
 ghost use Rattle.text.specs.Text.{decimal, item, position_line, refused_line, header};
 ghost use Rattle.text.specs.Inner.Room.{most_bytes};
-
-// A field of a line: a number, or `-`.
-#[derive(Clone, Copy)]
-pub enum Field {
-    Number(u64),
-    Absent,
-}
 
 // The table that a position stands in, and its rank there.
 #[derive(Clone, Copy)]
@@ -30,12 +23,10 @@ fn put(out: &mut [u8], at: usize, bytes: &[u8]) -> usize
     ensures place { result ≡ at + length bytes.now }
     ensures buffer { out.new ≡ sets out.old at bytes.now }
 {
-    let mut i = 0;
-    while i < bytes.len() {
+    for i in 0..bytes.len() {
         out[at + i] = bytes[i];
-        i += 1;
     }
-    at + i
+    at + bytes.len()
 }
 
 // Writes a number in base ten.
@@ -51,13 +42,13 @@ fn put_decimal(out: &mut [u8], at: usize, n: u64) -> usize
 }
 
 // Writes a field and the byte after it.
-fn put_item(out: &mut [u8], at: usize, field: Field, after: u8) -> usize
+fn put_item(out: &mut [u8], at: usize, field: Option<u64>, after: u8) -> usize
     requires { at + 21 ≤ length out.old }
     ensures place { result ≡ at + length (item field after) }
     ensures bound { result ≤ at + 21 }
     ensures buffer { out.new ≡ sets out.old at (item field after) }
 {
-    let Field::Number(n) = field else {
+    let Some(n) = field else {
         out[at] = b'-';
         out[at + 1] = after;
         return at + 2;
@@ -72,8 +63,8 @@ pub fn put_position(
     out: &mut [u8],
     at: usize,
     standing: Standing,
-    entry: Field,
-    best: Field,
+    entry: Option<u64>,
+    best: Option<u64>,
 ) -> usize
     requires { at + most_bytes ≤ length out.old }
     ensures place { result ≡ at + length (position_line standing.rings standing.mover standing.opponent standing.rank entry best) }
@@ -81,10 +72,10 @@ pub fn put_position(
     ensures buffer { out.new
         ≡ sets out.old at (position_line standing.rings standing.mover standing.opponent standing.rank entry best) }
 {
-    let second = put_item(out, at, Field::Number(standing.rings), b' ');
-    let third = put_item(out, second, Field::Number(standing.mover), b' ');
-    let fourth = put_item(out, third, Field::Number(standing.opponent), b' ');
-    let fifth = put_item(out, fourth, Field::Number(standing.rank), b' ');
+    let second = put_item(out, at, Some(standing.rings), b' ');
+    let third = put_item(out, second, Some(standing.mover), b' ');
+    let fourth = put_item(out, third, Some(standing.opponent), b' ');
+    let fifth = put_item(out, fourth, Some(standing.rank), b' ');
     let sixth = put_item(out, fifth, entry, b' ');
     put_item(out, sixth, best, b'\n')
 }
@@ -97,7 +88,7 @@ pub fn put_refused(out: &mut [u8], at: usize, number: u64) -> usize
     ensures buffer { out.new ≡ sets out.old at (refused_line number) }
 {
     let next = put(out, at, b"refused ");
-    put_item(out, next, Field::Number(number), b'\n')
+    put_item(out, next, Some(number), b'\n')
 }
 
 // Writes the header at the start.

@@ -21,7 +21,6 @@ use Rattle.bestmove.specs.Best.{best_entry, best_move}
 use Rattle.bestmove.specs.Inner.Choosing.{Candidates}
 use Rattle.bestmove.specs.Inner.Worth.{entry_by}
 use Rattle.bestmove.proofs.MoveEntries.{moves_told}
-use borrow.Author.Rules.{rules}
 use Rattle.bestmove.proofs.best_move.Goals as goal
 use Rattle.bestmove.proofs.best_move.Goals.{After-count_moves-counts, Start}
 

@@ -2,7 +2,6 @@
 use native.Mathlib.Omega.{arith}
 use borrow.Author.Tests.{lt-ltb, le-ltb}
 use Rattle.bestmove.specs.Inner.Worth.{worth}
-use borrow.Author.Rules.{rules}
 use Rattle.bestmove.proofs.better.Goals as goal
 
 pub returns-then-worth : goal.returns-then-worth

@@ -3,7 +3,6 @@ use mathlib.Core.Path.{sym}
 use native.Mathlib.Omega.{arith}
 use Rattle.game.proofs.Entries.{lost_of, won_of}
 use Rattle.bestmove.proofs.Worths.{worth_won, worth_lost, worth_other}
-use borrow.Author.Rules.{rules}
 use Rattle.bestmove.proofs.worth.Goals as goal
 
 pub returns-then-e-ge-VOID_WIDE : goal.returns-then-e-ge-VOID_WIDE

@@ -14,8 +14,8 @@ use Rattle.probing.specs.Inner.Conditions.{Probing}
 use Rattle.bestmove.specs.Inner.Worth.{entry_by}
 
 -- the entries of the successors by a rule can be read, and none is void
-pub record NoneVoid (rule : Rule) (tablebase lent : List ℕ) (rings : ℕ) (starts : Starts) (position : Position) : Type 0 where
-  pub probing : Probing lent (length tablebase) rings starts position
+pub record NoneVoid (rule : Rule) (tablebase : List ℕ) (rings : ℕ) (starts : Starts) (position : Position) : Type 0 where
+  pub probing : Probing (length tablebase) rings starts position
   pub told : any (λ b. eqb (probe tablebase starts.same starts.fewer (count 2 (board_of (8 * rings) position)) b) void_entry)
       (successors rule rings (board_of (8 * rings) position)) ≡ false
 

@@ -1,5 +1,4 @@
 -- `board::position_of` meets its contract: one set for each side. Assumes nothing.
-use borrow.Author.Rules.{rules}
 use Rattle.board.specs.Board.{position_of}
 use Rattle.board.proofs.position_of.Goals as goal
 

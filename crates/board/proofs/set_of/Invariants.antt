@@ -1,17 +1,9 @@
 -- `board::set_of` meets its contract. The invariant: the set of the bytes passed, from the highest point down. Assumes nothing.
-use mathlib.Core.Path.{◌≡◌, sym, ap, subst, ◌∙◌}
-use Prim.Native.Nat.{ℕ, ◌≤◌, ◌-◌, ◌^◌, ◌<◌}
-use native.Mathlib.Omega.{arith}
-use borrow.Author.Rules.{rules}
-use lib.ListN.{length, drop, get_or}
-use lib.Seq.{drop-length}
-use lib.Dec.{eqb}
+use Rattle.std.proofs.Common.{◌≡◌, ◌++◌, List, ℕ}
+use Rattle.std.specs.Slice.Iter.{iter_rest}
+use Rattle.std.specs.Iterator.Adapters.{rev_source}
 use Rattle.board.specs.Board.{set_of}
-use Rattle.board.proofs.Sides.{set_small, set_step, digit_lt}
 use Rattle.board.proofs.set_of.Given as goal
 
-abbrev pub invariant-loop-i : goal.invariant-loop-i
-invariant-loop-i l = (l.i ≤ length l.board) × (l.s ≡ set_of l.v (drop l.i l.board))
-
-abbrev pub decreases-loop-i : goal.decreases-loop-i
-decreases-loop-i l = l.i
+abbrev pub invariant-loop-x : goal.invariant-loop-x
+invariant-loop-x l = (p : List ℕ) × (l.board ≡ iter_rest (rev_source l.x-iterator) ++ p) × (l.s ≡ set_of l.v p)

@@ -2,7 +2,6 @@
 use mathlib.Core.Path.{◌≡◌}
 use Prim.Native.Nat.{ℕ, ◌-◌, ◌*◌, ◌%◌, ◌^◌, ◌≤◌}
 use native.Mathlib.Omega.{arith}
-use borrow.Author.Rules.{rules}
 use Rattle.sets.proofs.Laws.{shl_one}
 use Rattle.board.specs.Board.{set_of, board_of}
 use Rattle.board.proofs.OneToOne.{vacant_sum}

@@ -2,31 +2,34 @@
 use mathlib.Core.Path.{◌≡◌, sym, ap, ◌∙◌}
 use mathlib.Core.Bool.{Bool, cond, not}
 use borrow.Author.Tests.{eq-eqb, ne_eqb}
-use borrow.Author.Rules.{rules}
 use Rattle.refusals.specs.Refusals.{refusal}
 use Rattle.refusals.specs.Conditions.{counts_picks, length_wrong}
 use Rattle.refusals.proofs.Conditions.{stones_refused, room_decides}
+use Rattle.answers.specs.Answers.{refusal_number}
+use Rattle.answers.proofs.Answering.{refusal_some, handed_on}
 use Rattle.board_refusals.proofs.of_counts.Goals as goal
-use Rattle.board_refusals.proofs.of_counts.Goals.{Else-refusal-ne0}
+use Rattle.board_refusals.proofs.of_counts.Goals.{In_ok-of_stones}
 
 -- past rings and counts, the target decides
-decided : (c : Else-refusal-ne0) (t : Bool) → length_wrong c.args.rings c.args.room ≡ t
+decided : (c : In_ok-of_stones) (t : Bool) → length_wrong c.args.rings c.args.room ≡ t
     → refusal (counts_picks c.args.rings c.args.mover c.args.opponent
     c.args.room) ≡ cond t 6 0
 decided c t e =
     let a = c.args in
-    room_decides a.rings a.mover a.opponent a.room (sym c.if-refusal-ne0.false ∙ c.of_stones-refusal.ensures)
+    room_decides a.rings a.mover a.opponent a.room c.in_ok-of_stones.ensures
     ∙ ap (λ (u : Bool). cond u 6 0) e
 
-pub returns-then-refusal-ne0 : goal.returns-then-refusal-ne0
-returns-then-refusal-ne0 c =
+pub returns-in_err-of_stones : goal.returns-in_err-of_stones
+returns-in_err-of_stones c =
     let a = c.args in
-    stones_refused a.rings a.mover a.opponent a.room c.of_stones-refusal.result c.if-refusal-ne0.true c.of_stones-refusal.ensures
+    let r = c.in_err-of_stones.field-0.0 in
+    rw (handed_on c.from_residual.result r c.from_residual.ensures.1)
+    (stones_refused a.rings a.mover a.opponent a.room (refusal_number r) (refusal_some r) c.in_err-of_stones.ensures)
 
 pub returns-then-room-rings : goal.returns-then-room-rings
 returns-then-room-rings c =
-    sym (decided (goal.at.returns-then-room-rings c).Else-refusal-ne0 _ (ap not (ne_eqb _ _ c.if-room-rings.true)))
+    sym (decided (goal.at.returns-then-room-rings c).In_ok-of_stones _ (ap not (ne_eqb _ _ c.if-room-rings.true)))
 
 pub returns : goal.returns
 returns c =
-    sym (decided (goal.at.returns c).Else-refusal-ne0 _ (ap not (eq-eqb _ _ c.if-room-rings.false)))
+    sym (decided (goal.at.returns c).In_ok-of_stones _ (ap not (eq-eqb _ _ c.if-room-rings.false)))

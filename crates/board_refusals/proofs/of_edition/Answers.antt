@@ -2,7 +2,6 @@
 use mathlib.Core.Path.{◌≡◌, sym, ◌∙◌}
 use mathlib.Core.Bool.{false}
 use mathlib.Core.List.{List}
-use borrow.Author.Rules.{rules}
 use Rattle.refusals.specs.Refusals.{Picked, refusal_table, picked_rows}
 use Rattle.refusals.specs.Conditions.{rings_wrong, edition_picks}
 use Rattle.refusals.proofs.FirstRefusal.{meets, passes}

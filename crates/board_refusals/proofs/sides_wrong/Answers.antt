@@ -2,7 +2,6 @@
 use mathlib.Core.Path.{ap₂, ◌∙◌}
 use Prim.Native.Nat.{ℕ}
 use native.Mathlib.Omega.{arith}
-use borrow.Author.Rules.{rules}
 use Rattle.sets.proofs.Laws.{members_le}
 use Rattle.refusals.specs.Conditions.{counts_wrong}
 use Rattle.board_refusals.proofs.sides_wrong.Goals as goal

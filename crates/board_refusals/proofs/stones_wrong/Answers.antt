@@ -2,7 +2,6 @@
 use mathlib.Core.Path.{ap₂, ◌∙◌}
 use mathlib.Core.List.{List}
 use Prim.Native.Nat.{ℕ}
-use borrow.Author.Rules.{rules}
 use Rattle.refusals.specs.Conditions.{counts_wrong}
 use Rattle.board.proofs.Sides.{mover_stones, opponent_stones}
 use Rattle.board_refusals.proofs.stones_wrong.Goals as goal

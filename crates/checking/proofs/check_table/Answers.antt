@@ -2,10 +2,8 @@
 use mathlib.Core.Path.{◌≡◌, sym, ap, subst, ◌∙◌}
 use mathlib.Core.Bool.{Bool}
 use mathlib.Core.List.{List, [], ◌∷◌}
-use Prim.Native.Nat.{ℕ, ◌+◌, ◌-◌, ◌*◌, ◌≤◌}
+use Prim.Native.Nat.{ℕ, ◌+◌, ◌-◌, ◌*◌}
 use native.Mathlib.Omega.{arith}
-use borrow.Author.Rules.{rules}
-use borrow.Author.Tests.{not-true, not-false}
 use Rattle.sizes.specs.Size.{size as size_of}
 use Rattle.ranking.specs.Unrank.{unrank}
 use Rattle.layout.specs.Layout.{table as table_of}
@@ -13,7 +11,6 @@ use Rattle.layout.proofs.OneToOne.{end_is}
 use Rattle.rules.specs.Ply.{removable}
 use Rattle.tables.specs.declared.Table.{Table}
 use Rattle.tables.specs.Inner.Tables.{Located}
-use Rattle.seeking.specs.Inner.Cursors.{Stands}
 use Rattle.seeking.proofs.Positions.{stands_at}
 use Rattle.certificate.specs.Certificate.{boards_of, entry_right}
 use Rattle.certificate.proofs.Passing.{Going, parts_from, going_none, part_passed, part_failed, parts_passed, one_passed, one_failed}
@@ -58,13 +55,13 @@ said c =
 pub returns-then-not-place_right : goal.returns-then-not-place_right
 returns-then-not-place_right c =
     let (w, z) = one_failed (test (goal.at.returns-then-not-place_right c).After-nowhere-at) _ (sym (said (goal.at.returns-then-not-place_right c).After-place_right) ∙ c.if-not-place_right.true) in
-    let (e, f) = part_failed (part (goal.at.returns-then-not-place_right c).After-nowhere-at) (test (goal.at.returns-then-not-place_right c).After-nowhere-at) (tested (goal.at.returns-then-not-place_right c).After-nowhere-at) c.loop-r.r c.loop-r.r (entries (goal.at.returns-then-not-place_right c).After-nowhere-at) c.loop-r.invariant.3 c.loop-r-test.true w in
+    let (e, f) = part_failed (part (goal.at.returns-then-not-place_right c).After-nowhere-at) (test (goal.at.returns-then-not-place_right c).After-nowhere-at) (tested (goal.at.returns-then-not-place_right c).After-nowhere-at) c.loop-r.r c.loop-r.r (entries (goal.at.returns-then-not-place_right c).After-nowhere-at) c.loop-r.invariant.2 c.loop-r-test.true w in
     record { count_is = omega (arith, z, e); all_is = f }
 
 pub returns : goal.returns
 returns c =
-    let (e, f) = parts_passed (part (goal.at.returns c).After-nowhere-at) (test (goal.at.returns c).After-nowhere-at) (tested (goal.at.returns c).After-nowhere-at) c.loop-r.r c.loop-r.r (entries (goal.at.returns c).After-nowhere-at) c.loop-r.invariant.3 (omega (arith, c.loop-r-test.false)) in
-    record { count_is = omega (arith, c.loop-r-test.false, c.loop-r.invariant.1) ∙ e; all_is = f }
+    let (e, f) = parts_passed (part (goal.at.returns c).After-nowhere-at) (test (goal.at.returns c).After-nowhere-at) (tested (goal.at.returns c).After-nowhere-at) c.loop-r.r c.loop-r.r (entries (goal.at.returns c).After-nowhere-at) c.loop-r.invariant.2 (omega (arith, c.loop-r-test.false)) in
+    record { count_is = omega arith ∙ e; all_is = f }
 
 pub loop-r-init : goal.loop-r-init
 loop-r-init c =
@@ -72,7 +69,6 @@ loop-r-init c =
     let e : entries (goal.at.loop-r-init c).After-nowhere-at ≡ size_of (8 * a.kind.rings) a.m a.o =
     omega (arith, (located (goal.at.loop-r-init c).After-nowhere-at).start_is, (located (goal.at.loop-r-init c).After-nowhere-at).end_is, end_is (8 * a.kind.rings) a.kind.k a.m a.o) in (
       e,
-      omega arith,
       λ h. absurd (omega (arith, c.nowhere-at.ensures)),
       going_none (test (goal.at.loop-r-init c).After-nowhere-at) (tested (goal.at.loop-r-init c).After-nowhere-at) _ (ap (λ (n : ℕ). parts_from (part (goal.at.loop-r-init c).After-nowhere-at) 0 n) e ∙ all_ranks (8 * a.kind.rings) a.m a.o),
     )
@@ -84,10 +80,9 @@ loop-r-preserved c =
     let (w, z) = one_passed (test (goal.at.loop-r-preserved c).After-nowhere-at) _ (sym (said (goal.at.loop-r-preserved c).After-place_right) ∙ c.if-not-place_right.false) in
     let k = c.seek-at.ensures in (
       c.loop-r.invariant.0,
-      omega (arith, h),
       stands_at a.kind.rings a.m a.o (entries (goal.at.loop-r-preserved c).After-nowhere-at) c.loop-r.r c.seek-at.result k.0 k.1,
       subst (λ (i : ℕ). Going (test (goal.at.loop-r-preserved c).After-nowhere-at) (tested (goal.at.loop-r-preserved c).After-nowhere-at) (c.loop-r.r + i) (parts_from (part (goal.at.loop-r-preserved c).After-nowhere-at) (c.loop-r.r + 1) (entries (goal.at.loop-r-preserved c).After-nowhere-at))) z
-          (part_passed (part (goal.at.loop-r-preserved c).After-nowhere-at) (test (goal.at.loop-r-preserved c).After-nowhere-at) (tested (goal.at.loop-r-preserved c).After-nowhere-at) c.loop-r.r c.loop-r.r (entries (goal.at.loop-r-preserved c).After-nowhere-at) c.loop-r.invariant.3 h w),
+          (part_passed (part (goal.at.loop-r-preserved c).After-nowhere-at) (test (goal.at.loop-r-preserved c).After-nowhere-at) (tested (goal.at.loop-r-preserved c).After-nowhere-at) c.loop-r.r c.loop-r.r (entries (goal.at.loop-r-preserved c).After-nowhere-at) c.loop-r.invariant.2 h w),
     )
 
 pub overflow_mul-points : goal.overflow_mul-points
@@ -95,11 +90,11 @@ overflow_mul-points c = omega (arith, c.requires.whole.0.small)
 
 pub table_of-table-requires : goal.table_of-table-requires
 table_of-table-requires c =
-    let p = c.requires.whole in record { binomial_table = c.requires.lent.binomials; points_bound = (omega (arith, p.0.small), p.0.largest_high, p.1, p.2, p.3, p.4) }
+    let p = c.requires.whole in (omega (arith, p.0.small), p.0.largest_high, p.1, p.2, p.3, p.4)
 
 pub start-same-requires : goal.start-same-requires
 start-same-requires c =
-    let p = c.requires.whole in record { binomial_table = c.requires.lent.binomials; points_bound = (omega (arith, p.0.small), p.0.largest_high, p.3, p.4, p.1, p.2) }
+    let p = c.requires.whole in (omega (arith, p.0.small), p.0.largest_high, p.3, p.4, p.1, p.2)
 
 pub overflow_sub-size : goal.overflow_sub-size
 overflow_sub-size c =
@@ -109,14 +104,14 @@ overflow_sub-size c =
 
 pub seek-at-requires : goal.seek-at-requires
 seek-at-requires c =
-    let i = c.loop-r.invariant in record { binomial_table = c.requires.lent.binomials; rings_bound = (c.requires.whole.0.small, omega (arith, c.loop-r-test.true, i.0)); stands = λ h. i.2 (omega (arith, c.loop-r-test.true)) }
+    let i = c.loop-r.invariant in record { rings_bound = (c.requires.whole.0.small, omega (arith, c.loop-r-test.true, i.0)); stands = λ h. i.1 (omega (arith, c.loop-r-test.true)) }
 
 pub place_right-requires : goal.place_right-requires
 place_right-requires c =
     let a = c.args in
     let p = c.requires.whole in
     let t = own (goal.at.place_right-requires c).After-nowhere-at in record {
-      lent = c.requires.lent;
+      masks = c.requires.masks;
       whole = (
         p.0,
         table_is a.kind a.m a.o t (located (goal.at.place_right-requires c).After-nowhere-at) (p.1, p.2, p.3, p.4) c.start-same.result
@@ -125,9 +120,3 @@ place_right-requires c =
             c.seek-at.ensures.0 c.seek-at.ensures.1,
       );
     }
-
-pub overflow_add-r : goal.overflow_add-r
-overflow_add-r c = omega (arith, c.loop-r-test.true)
-
-pub loop-r-smaller : goal.loop-r-smaller
-loop-r-smaller c = omega (arith, c.loop-r-test.true)

@@ -37,9 +37,8 @@ right-requires c =
     let a = c.args in
     let p = c.requires.whole in record {
       probing = record {
-        binomials = c.requires.lent.binomials;
         placed = position_placed (length a.tablebase.now) a.kind p.0 a.table a.same p.1 a.at p.2;
         reads = successors_read (length a.tablebase.now) a.kind p.0 a.table a.same p.1 a.at p.2;
       };
-      masks = c.requires.lent.masks;
+      masks = c.requires.masks;
     }

@@ -1,5 +1,5 @@
 -- What the check of a tablebase asks of its caller, and what it answers of a list of boards. Assumes nothing.
-use Rattle.std.specs.Prelude.{◌≡◌, Bool, List, ℕ, ◌*◌, ◌≤◌, ◌<◌}
+use Rattle.std.specs.Prelude.{◌≡◌, Bool, true, false, Result, Ok, Err, List, ℕ, ◌*◌, ◌≤◌, ◌<◌}
 use Rattle.lists.specs.Lists.{all}
 use Rattle.board.specs.Board.{position_of}
 use Rattle.sizes.specs.Size.{size}
@@ -10,7 +10,6 @@ use Rattle.tables.specs.Inner.Tables.{Located}
 use Rattle.seeking.specs.declared.Cursor.{Cursor}
 use Rattle.certificate.specs.Certificate.{passing}
 use Rattle.checking.specs.declared.Kind.{Kind}
-use Rattle.checking.specs.declared.Passed.{Passed}
 
 -- a tablebase of a length, whole for its kind
 pub record Whole (length : ℕ) (kind : Kind) : Type 0 where
@@ -30,7 +29,16 @@ pub record StandsIn (kind : Kind) (t : Table) (at : Cursor) : Type 0 where
   pub rank_low : at.rank < size (8 * kind.rings) t.mover t.opponent
   pub position_is : at.position ≡ position_of (unrank (8 * kind.rings) t.mover t.opponent at.rank)
 
--- p tells how many boards pass a test before the first that does not, and whether all do
-pub record Tested (f : List ℕ → Bool) (boards : List (List ℕ)) (p : Passed) : Type 0 where
-  pub count_is : p.count ≡ passing f boards
-  pub all_is : p.all ≡ all f boards
+-- what is answered: how many entries are right before the first that is not, or how many there are
+abbrev pub count_of : Result ℕ ℕ → ℕ
+count_of (Ok n) = n
+count_of (Err n) = n
+
+-- and whether all are right
+abbrev pub all_of : Result ℕ ℕ → Bool
+all_of (Ok n) = true
+all_of (Err n) = false
+
+pub record Tested (f : List ℕ → Bool) (boards : List (List ℕ)) (answer : Result ℕ ℕ) : Type 0 where
+  pub count_is : count_of answer ≡ passing f boards
+  pub all_is : all_of answer ≡ all f boards

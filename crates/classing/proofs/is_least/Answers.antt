@@ -1,17 +1,15 @@
 -- `classing::is_least` meets its contract. The invariant: no image so far has a lower number, for any position with that mover's set. Assumes nothing.
-use mathlib.Core.Path.{◌≡◌, refl, subst}
-use Prim.Native.Nat.{ℕ, ◌-◌, ◌*◌, ◌≤◌}
+use mathlib.Core.Path.{refl, subst}
+use Prim.Native.Nat.{ℕ, ◌*◌, ◌≤◌}
 use native.Mathlib.Omega.{arith}
 use borrow.Author.Count.{below_more}
-use Rattle.board.specs.declared.Position.{Position}
-use Rattle.board.specs.Board.{board_of, OnBoard}
+use Rattle.board.specs.Board.{board_of}
 use Rattle.board.proofs.OneToOne.{mover_set_lem}
 use Rattle.symmetry.specs.Symmetries.{image}
 use Rattle.imaging.specs.Inner.Images.{ImageSet}
 use Rattle.classing.specs.Inner.Classes.{mover_set}
 use Rattle.imaging.proofs.Assembled.{within_all}
-use Rattle.classing.proofs.Least.{number_image, NoLower, first_no_lower, no_lower, one_lower}
-use borrow.Author.Rules.{rules}
+use Rattle.classing.proofs.Least.{number_image, first_no_lower, no_lower, one_lower}
 use Rattle.classing.proofs.is_least.Goals as goal
 
 pub loop-g-init : goal.loop-g-init
@@ -21,16 +19,13 @@ loop-g-init c =
 pub image_set-requires : goal.image_set-requires
 image_set-requires c =
     let a = c.args in
-    let p = c.requires in record {
-      ring_images = p.images;
-      rings_bound = (
-        p.small,
-        omega (arith, p.few, c.loop-g-test.true),
-        p.on.mover_within,
-        within_all a.maps.rings _ p.small
-            p.on.mover_within,
-      );
-    }
+    let p = c.requires in (
+      p.small,
+      omega (arith, p.few, c.loop-g-test.true),
+      p.on.mover_within,
+      within_all a.maps.rings _ p.small
+          p.on.mover_within,
+    )
 
 pub returns-then-image_set-own : goal.returns-then-image_set-own
 returns-then-image_set-own c =

@@ -1,7 +1,7 @@
 -- `comparing::find_decided` meets its contract. The invariant: what is passed are draws. Assumes nothing.
-use mathlib.Core.Path.{ap}
+use mathlib.Core.Path.{◌≡◌, ap, subst}
 use mathlib.Core.Bool.{not}
-use Prim.Native.Nat.{◌-◌}
+use Prim.Native.Nat.{ℕ}
 use native.Mathlib.Omega.{arith}
 use borrow.Author.Tests.{eq-eqb, ne_eqb}
 use Rattle.finding.specs.Inner.Finding.{NoneBefore}
@@ -13,27 +13,15 @@ pub loop-i-init : goal.loop-i-init
 loop-i-init c =
     passed_none (is_decided c.args.start c.args.tablebase.now) c.args.r c.args.size c.requires.0
 
-pub overflow_add-start : goal.overflow_add-start
-overflow_add-start c = omega (arith, c.loop-i-test.true, c.requires.1)
-
-pub offset_bounds-tablebase-start : goal.offset_bounds-tablebase-start
-offset_bounds-tablebase-start c = omega (arith, c.loop-i-test.true, c.requires.1)
-
-pub bounds-tablebase-start : goal.bounds-tablebase-start
-bounds-tablebase-start c = omega (arith, c.loop-i-test.true, c.requires.1)
-
 pub returns-then-tablebase-start : goal.returns-then-tablebase-start
 returns-then-tablebase-start c = first_here c.loop-i.invariant (ap not (ne_eqb _ _ c.if-tablebase-start.true))
-
-pub overflow_add-i : goal.overflow_add-i
-overflow_add-i c = omega (arith, c.loop-i-test.true)
-
-pub loop-i-smaller : goal.loop-i-smaller
-loop-i-smaller c = omega (arith, c.loop-i-test.true)
 
 pub loop-i-preserved : goal.loop-i-preserved
 loop-i-preserved c =
     passed_one c.loop-i.invariant (ap not (eq-eqb _ _ c.if-tablebase-start.false)) c.loop-i-test.true
 
 pub returns : goal.returns
-returns c = first_none c.loop-i.invariant (omega (arith, c.loop-i-test.false))
+returns c =
+    let a = c.args in
+    let e : c.loop-i.i ≡ a.size = omega (arith, c.loop-i-test.false, c.loop-i.invariant.high) in
+    first_none (subst (λ (i : ℕ). NoneBefore (is_decided a.start a.tablebase.now) a.r a.size i) e c.loop-i.invariant) (omega arith)

@@ -7,7 +7,6 @@ use lib.ListN.{get_or, length}
 use Rattle.ranking.specs.Rank.{rank}
 use Rattle.classing.proofs.Written.{image_rank}
 use Rattle.comparing.specs.Inner.Compared.{image_has}
-use borrow.Author.Rules.{rules}
 use Rattle.comparing.proofs.image_has.Goals as goal
 use Rattle.comparing.proofs.image_has.Goals.{After-rank-r}
 

@@ -1,7 +1,7 @@
 -- `comparing::is_symmetric` meets its contract. The invariant: the positions passed are draws or keep their entries. Assumes nothing.
 use mathlib.Core.Path.{◌≡◌, sym, ap, ap₂, ◌∙◌}
 use mathlib.Core.List.{List}
-use Prim.Native.Nat.{ℕ, ◌+◌, ◌-◌, ◌*◌, ◌≤◌}
+use Prim.Native.Nat.{ℕ, ◌+◌, ◌*◌}
 use native.Mathlib.Omega.{arith}
 use lib.ListN.{get_or}
 use Rattle.lists.proofs.Tests.{clash}
@@ -10,11 +10,10 @@ use Rattle.sizes.specs.Size.{size}
 use Rattle.ranking.specs.Unrank.{unrank}
 use Rattle.ranking.proofs.Inverse.{rank_unrank}
 use Rattle.plies.specs.Inner.Positions.{Placed}
-use Rattle.seeking.specs.Inner.Cursors.{Stands}
 use Rattle.seeking.proofs.Positions.{placed_at}
 use Rattle.seeking.proofs.Positions.{stands_at}
 use Rattle.comparing.specs.Inner.Compared.{same_images}
-use Rattle.comparing.proofs.Tested.{images_same, AllTested, passed_over, passed_one, passed_all}
+use Rattle.comparing.proofs.Tested.{images_same, passed_over, passed_one, passed_all}
 use Rattle.comparing.proofs.is_symmetric.Goals as goal
 use Rattle.comparing.proofs.is_symmetric.Goals.{After-same_images, After-seek-at}
 
@@ -34,7 +33,7 @@ overflow_mul-rings c = omega (arith, c.requires.small)
 
 pub size-size-requires : goal.size-size-requires
 size-size-requires c =
-    let p = c.requires in record { binomial_table = p.binomials; points_bound = (omega (arith, p.small), p.mover_most, p.opponent_most) }
+    let p = c.requires in (omega (arith, p.small), p.mover_most, p.opponent_most)
 
 pub find_decided-r-requires : goal.find_decided-r-requires
 find_decided-r-requires c = (omega arith, omega (arith, c.size-size.ensures, c.requires.room))
@@ -51,7 +50,7 @@ loop-r-init c =
 
 pub seek-at-requires : goal.seek-at-requires
 seek-at-requires c =
-    record { binomial_table = c.requires.binomials; rings_bound = (c.requires.small, omega (arith, c.loop-r-test.true, c.loop-r.invariant.0)); stands = λ h. c.loop-r.invariant.3 (omega (arith, c.loop-r-test.true)) }
+    record { rings_bound = (c.requires.small, omega (arith, c.loop-r-test.true, c.loop-r.invariant.0)); stands = λ h. c.loop-r.invariant.3 (omega (arith, c.loop-r-test.true)) }
 
 pub overflow_add-entry : goal.overflow_add-entry
 overflow_add-entry c = omega (arith, c.loop-r-test.true, c.loop-r.invariant.0, c.requires.room)
@@ -70,7 +69,7 @@ same_images-requires c =
     let m = ap (count 1) w.1 ∙ r.mover in
     let o = ap (count 2) w.1 ∙ r.opponent in
     let z = ap₂ (size (8 * a.rings)) m o in
-    record { binomials = c.requires.binomials; images = c.requires.images; small = c.requires.small; on = w.0.on; room = omega (arith, z, c.requires.room) }
+    record { small = c.requires.small; on = w.0.on; room = omega (arith, z, c.requires.room) }
 
 -- what is tested of it
 tested : (c : After-same_images)

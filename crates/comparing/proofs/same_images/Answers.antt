@@ -2,7 +2,6 @@
 use mathlib.Core.Path.{ap₂}
 use mathlib.Core.Bool.{Bool, ◌&&◌}
 use Rattle.comparing.specs.Inner.Compared.{same_images}
-use borrow.Author.Rules.{rules}
 use Rattle.comparing.proofs.same_images.Goals as goal
 
 pub returns : goal.returns

@@ -2,27 +2,21 @@
 use Rattle.std.specs.Prelude.{Bool, true, false, not, ◌&&◌, List, ℕ, ◌+◌, ◌*◌, ◌≤◌, eqb, get_or}
 use Rattle.board.specs.Board.{count, board_of, OnBoard}
 use Rattle.sizes.specs.Size.{size}
-use Rattle.sizes.specs.Inner.Binomial.{BinomialTable}
 use Rattle.ranking.specs.Rank.{rank}
 use Rattle.game.specs.Game.{draw_entry}
 use Rattle.symmetry.specs.Symmetries.{image}
-use Rattle.imaging.specs.Inner.Images.{RingImages}
 use Rattle.layers.specs.declared.Source.{Source}
 use Rattle.comparing.specs.declared.Entered.{Entered}
 
 -- the lent tables, and a table that lies within a tablebase of a length
-pub record Comparable (lent lent-images : List ℕ) (length rings : ℕ) (table : Source) : Type 0 where
-  pub binomials : BinomialTable lent
-  pub images : RingImages lent-images
+pub record Comparable (length rings : ℕ) (table : Source) : Type 0 where
   pub small : rings ≤ 3
   pub mover_most : table.mover ≤ 24
   pub opponent_most : table.opponent ≤ 24
   pub room : table.start + size (8 * rings) table.mover table.opponent ≤ length
 
 -- the lent tables, and a position whose table lies within a tablebase of a length
-pub record Comparing (lent lent-images : List ℕ) (length rings : ℕ) (at : Entered) : Type 0 where
-  pub binomials : BinomialTable lent
-  pub images : RingImages lent-images
+pub record Comparing (length rings : ℕ) (at : Entered) : Type 0 where
   pub small : rings ≤ 3
   pub on : OnBoard (8 * rings) at.position
   pub room : at.start + size (8 * rings) (count 1 (board_of (8 * rings) at.position)) (count 2 (board_of (8 * rings) at.position)) ≤ length

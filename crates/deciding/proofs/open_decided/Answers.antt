@@ -3,7 +3,6 @@ use mathlib.Core.Path.{sym, ◌∙◌}
 use lib.ListN.{length}
 use Rattle.rules.specs.Ply.{removable}
 use Rattle.deciding.proofs.AtRank.{AtRank, at_rank, decided_at, closed_undecided, open_decided_lem}
-use borrow.Author.Rules.{rules}
 use Rattle.deciding.proofs.open_decided.Goals as goal
 use Rattle.deciding.proofs.open_decided.Goals.{After-unrank-position}
 
@@ -17,7 +16,7 @@ found c =
 
 pub decided-requires : goal.decided-requires
 decided-requires c =
-    let w = found (goal.at.decided-requires c).After-unrank-position in record { probing = record { binomials = c.requires.lent.binomials; placed = w.placed; reads = w.reads }; masks = c.requires.lent.masks }
+    let w = found (goal.at.decided-requires c).After-unrank-position in record { probing = record { placed = w.placed; reads = w.reads }; masks = c.requires.masks }
 
 pub returns-then-is_open : goal.returns-then-is_open
 returns-then-is_open c =

@@ -1,11 +1,10 @@
 -- `deciding::some_decided` meets its contract. The invariant: no place passed is open and decided. Assumes nothing.
 use mathlib.Core.Path.{◌≡◌, sym, ap, ◌∙◌}
-use Prim.Native.Nat.{ℕ, ◌≤◌, ◌-◌, ◌+◌}
+use Prim.Native.Nat.{ℕ, ◌+◌}
 use mathlib.Core.Bool.{Bool, false}
 use native.Mathlib.Decide.{ℕ_discrete}
 use native.Mathlib.Omega.{arith}
-use Rattle.rules.specs.Ply.{removable}
-use Rattle.deciding.specs.Inner.Open.{open_decided, Found}
+use Rattle.deciding.specs.Inner.Open.{Found}
 use Rattle.deciding.proofs.some_decided.Goals as goal
 
 -- one number more that does not pass
@@ -20,11 +19,11 @@ pub overflow_sub-size : goal.overflow_sub-size
 overflow_sub-size c = omega (arith, c.requires.fits.end_is)
 
 pub loop-r-init : goal.loop-r-init
-loop-r-init c = (omega (arith, c.requires.fits.end_is), omega arith, λ r l. absurd (omega arith))
+loop-r-init c = (omega (arith, c.requires.fits.end_is), λ r l. absurd (omega arith))
 
 pub open_decided-requires : goal.open_decided-requires
 open_decided-requires c =
-    let f = c.requires.fits in record { lent = c.requires.lent; fits = (f, omega (arith, c.loop-r-test.true, c.loop-r.invariant.0, f.end_is)) }
+    let f = c.requires.fits in record { masks = c.requires.masks; fits = (f, omega (arith, c.loop-r-test.true, c.loop-r.invariant.0, f.end_is)) }
 
 pub returns-then-open_decided : goal.returns-then-open_decided
 returns-then-open_decided c = (
@@ -33,19 +32,12 @@ returns-then-open_decided c = (
   sym c.open_decided.ensures ∙ c.if-open_decided.true,
 )
 
-pub overflow_add-r : goal.overflow_add-r
-overflow_add-r c = omega (arith, c.loop-r-test.true)
-
-pub loop-r-smaller : goal.loop-r-smaller
-loop-r-smaller c = omega (arith, c.loop-r-test.true)
-
 pub loop-r-preserved : goal.loop-r-preserved
 loop-r-preserved c = (
   c.loop-r.invariant.0,
-  omega (arith, c.loop-r-test.true),
-  none_more _ c.loop-r.r c.loop-r.invariant.2 (sym c.open_decided.ensures ∙ c.if-open_decided.false),
+  none_more _ c.loop-r.r c.loop-r.invariant.1 (sym c.open_decided.ensures ∙ c.if-open_decided.false),
 )
 
 pub returns : goal.returns
 returns c =
-    λ r l. c.loop-r.invariant.2 r (omega (arith, c.loop-r-test.false, c.loop-r.invariant.0, c.loop-r.invariant.1, c.requires.fits.end_is))
+    λ r l. c.loop-r.invariant.1 r (omega (arith, c.loop-r-test.false, c.loop-r.invariant.0, c.requires.fits.end_is))

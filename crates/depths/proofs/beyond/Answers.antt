@@ -4,7 +4,6 @@ use mathlib.Core.Logic.{inl}
 use native.Mathlib.Omega.{arith}
 use Rattle.depths.specs.Inner.Depths.{Held}
 use Rattle.depths.proofs.Held.{second_held}
-use borrow.Author.Rules.{rules}
 use Rattle.depths.proofs.beyond.Goals as goal
 
 pub returns-then-level-limit : goal.returns-then-level-limit

@@ -1,6 +1,5 @@
 -- `depths::holds` meets its contract. Assumes nothing.
 use Rattle.depths.proofs.Held.{held}
-use borrow.Author.Rules.{rules}
 use Rattle.depths.proofs.holds.Goals as goal
 
 pub returns : goal.returns

@@ -3,7 +3,6 @@ use mathlib.Core.Path.{subst}
 use mathlib.Core.Logic.{inl, inr}
 use Rattle.depths.specs.Inner.Depths.{Held}
 use Rattle.depths.proofs.Held.{last_held}
-use borrow.Author.Rules.{rules}
 use Rattle.depths.proofs.pair_holds.Goals as goal
 
 pub returns-then-holds : goal.returns-then-holds

@@ -3,7 +3,6 @@ use mathlib.Core.Path.{subst, ap₂, ◌∙◌}
 use Prim.Native.Nat.{min}
 use Rattle.depths.specs.Inner.Depths.{PairHeld}
 use Rattle.depths.proofs.Held.{least_of, least_held}
-use borrow.Author.Rules.{rules}
 use Rattle.depths.proofs.pair_least.Goals as goal
 
 pub returns-then-pair_holds : goal.returns-then-pair_holds
@@ -15,7 +14,7 @@ returns-then-pair_holds c =
 pub returns : goal.returns
 returns c =
     let a = c.args in
-    c.least-3.ensures ∙ ap₂ min c.least.ensures c.least-2.ensures
+    c.min-3.ensures ∙ ap₂ min c.min.ensures c.min-2.ensures
     ∙ least_of a.tables.first a.tables.second a.low a.tablebase.now c.least_depth-a.result c.least_depth-b.result
     c.least_depth-c.result c.least_depth-d.result c.least_depth-a.ensures c.least_depth-b.ensures
     c.least_depth-c.ensures c.least_depth-d.ensures

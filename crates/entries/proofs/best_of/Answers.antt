@@ -5,7 +5,6 @@ use mathlib.Core.List.{List, [], ◌∷◌}
 use Prim.Native.Nat.{ℕ, ◌*◌}
 use native.Mathlib.Omega.{arith}
 use lib.ListN.{length}
-use borrow.Author.Rules.{rules}
 use Rattle.board.specs.Board.{board_of}
 use Rattle.rules.specs.Ply.{removable, blocked}
 use Rattle.rules.proofs.Listed.{removable_takes}
@@ -28,12 +27,11 @@ some : (c : After-starts_of-starts) → blocked c.args.rings (board (goal.at.voi
 some c = sym c.blocked.ensures ∙ c.if-blocked.false
 
 probed : (c : After-starts_of-starts)
-    → Probing c.args.binomials.now (length c.args.tablebase.now) c.args.rings c.starts_of-starts.result
+    → Probing (length c.args.tablebase.now) c.args.rings c.starts_of-starts.result
     c.args.position
 probed c =
     let w = c.requires.0 in
     record {
-      binomials = w.binomials;
       placed = w.placed;
       reads = reads_of (removable c.args.edition) (removable_takes c.args.edition) c.args.rings c.args.k c.args.position w
           c.args.tablebase.now (starts c);
@@ -64,13 +62,13 @@ returns-then-void_after c =
     let a = c.args in
     void_choice (removable a.edition) a.rings a.k a.tablebase.now (board (goal.at.returns-then-void_after c).Start) (some (goal.at.returns-then-void_after c).After-starts_of-starts) (void (goal.at.returns-then-void_after c).After-void_after ∙ c.if-void_after.true)
 
-pub best_move-best-requires : goal.best_move-best-requires
-best_move-best-requires c =
+pub best_move-requires : goal.best_move-requires
+best_move-requires c =
     let w = c.requires in record {
-      none_void = record { probing = probed (goal.at.best_move-best-requires c).After-starts_of-starts; told = sym c.void_after.ensures ∙ c.if-void_after.false };
+      none_void = record { probing = probed (goal.at.best_move-requires c).After-starts_of-starts; told = sym c.void_after.ensures ∙ c.if-void_after.false };
       choosing = record {
         masks = w.1;
-        some = some (goal.at.best_move-best-requires c).After-starts_of-starts;
+        some = some (goal.at.best_move-requires c).After-starts_of-starts;
         mover_most = omega (arith, w.0);
         opponent_least = omega (arith, w.0);
         opponent_most = omega (arith, w.0);
@@ -84,6 +82,6 @@ returns c =
     let rule = removable a.edition in
     let takes = removable_takes a.edition in
     ap₂ (λ (m r : ℕ). accepted (m ∷ r ∷ []))
-    (c.best_move-best.ensures.number ∙ move_of rule takes a.rings a.k a.position w a.tablebase.now (starts (goal.at.returns c).After-starts_of-starts))
-    (c.best_move-best.ensures.entry ∙ entry_of rule takes a.rings a.k a.position w a.tablebase.now (starts (goal.at.returns c).After-starts_of-starts) (some (goal.at.returns c).After-starts_of-starts))
+    (c.best_move.ensures.number ∙ move_of rule takes a.rings a.k a.position w a.tablebase.now (starts (goal.at.returns c).After-starts_of-starts))
+    (c.best_move.ensures.entry ∙ entry_of rule takes a.rings a.k a.position w a.tablebase.now (starts (goal.at.returns c).After-starts_of-starts) (some (goal.at.returns c).After-starts_of-starts))
     ∙ move_choice (removable a.edition) a.rings a.k a.tablebase.now (board (goal.at.returns c).Start) (some (goal.at.returns c).After-starts_of-starts) (void (goal.at.returns c).After-void_after ∙ c.if-void_after.false)

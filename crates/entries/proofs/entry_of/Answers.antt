@@ -2,7 +2,6 @@
 use mathlib.Core.Path.{◌≡◌, ap₂, ◌∙◌}
 use Prim.Native.Nat.{ℕ, ◌*◌}
 use native.Mathlib.Omega.{arith}
-use borrow.Author.Rules.{rules}
 use Rattle.board.specs.Board.{board_of, count}
 use Rattle.board.proofs.OneToOne.{mover_count, opponent_count}
 use Rattle.layout.specs.Layout.{start}
@@ -30,11 +29,11 @@ start_is c =
 
 pub start-start-requires : goal.start-start-requires
 start-start-requires c =
-    let w = c.requires in record { binomial_table = w.binomials; points_bound = omega (arith, w, w.placed.small, mover_is (goal.at.start-start-requires c).After-count-opponent, opponent_is (goal.at.start-start-requires c).After-count-opponent) }
+    let w = c.requires in omega (arith, w, w.placed.small, mover_is (goal.at.start-start-requires c).After-count-opponent, opponent_is (goal.at.start-start-requires c).After-count-opponent)
 
 pub entry_in-requires : goal.entry_in-requires
 entry_in-requires c =
-    record { binomial_table = c.requires.binomials; placed = c.requires.placed; position_in_bounds = table_room c.args.rings c.args.k c.args.position c.requires _ (start_is (goal.at.entry_in-requires c).After-start-start) }
+    record { placed = c.requires.placed; position_in_bounds = table_room c.args.rings c.args.k c.args.position c.requires _ (start_is (goal.at.entry_in-requires c).After-start-start) }
 
 pub returns : goal.returns
 returns c =

@@ -2,13 +2,11 @@
 use Rattle.std.specs.Prelude.{◌≡◌, List, ℕ, ◌*◌, ◌≤◌}
 use Rattle.board.specs.declared.Position.{Position}
 use Rattle.board.specs.Board.{count, board_of}
-use Rattle.sizes.specs.Inner.Binomial.{BinomialTable}
 use Rattle.layout.specs.Layout.{tablebase_length}
 use Rattle.plies.specs.Inner.Positions.{Placed}
 
--- a position of the tables of largest count k, the lent binomials, and a tablebase of the right length
-pub record InTablebase (lent : List ℕ) (length rings k : ℕ) (position : Position) : Type 0 where
-  pub binomials : BinomialTable lent
+-- a position of the tables of largest count k, and a tablebase of the right length
+pub record InTablebase (length rings k : ℕ) (position : Position) : Type 0 where
   pub placed : Placed rings position
   pub exact : length ≡ tablebase_length (8 * rings) k
   pub largest : k ≤ 9

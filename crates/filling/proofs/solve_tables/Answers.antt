@@ -107,7 +107,7 @@ pub sweep_pair-requires : goal.sweep_pair-requires
 sweep_pair-requires c =
     let a = c.args in
     let e = pair_kept (rings (goal.at.sweep_pair-requires c).Start) (k (goal.at.sweep_pair-requires c).Start) (first (goal.at.sweep_pair-requires c).Start).mover (first (goal.at.sweep_pair-requires c).Start).opponent (first (goal.at.sweep_pair-requires c).Start) (second (goal.at.sweep_pair-requires c).Start) a.tablebase.now c.requires.pair_solving.setting draw_entry in
-    let w = setting_now (length c.fill_tables.new.tablebase) (ap length c.fill_tables.ensures ∙ e.same_length) c.requires.pair_solving.setting in record { lent = c.requires.lent; lies = (first_lies w, second_lies w) }
+    let w = setting_now (length c.fill_tables.new.tablebase) (ap length c.fill_tables.ensures ∙ e.same_length) c.requires.pair_solving.setting in record { masks = c.requires.masks; lies = (first_lies w, second_lies w) }
 
 pub loop-level-init : goal.loop-level-init
 loop-level-init c =
@@ -120,9 +120,8 @@ loop-level-init c =
 pub level_pair-requires : goal.level_pair-requires
 level_pair-requires c =
     let w = here (goal.at.level_pair-requires c).At-loop-level in record {
-      lent = c.requires.lent;
+      masks = c.requires.masks;
       pair_sweeping = record {
-        images = c.requires.pair_solving.images;
         few = (group_of c.args.maps c.requires.pair_solving.used).high;
         first_fits = first_fits w;
         first_counted = first_counted w;
@@ -199,7 +198,7 @@ returns-then-level-gt-VOID c =
 
 pub pair_decided-requires : goal.pair_decided-requires
 pair_decided-requires c =
-    let w = here (goal.at.pair_decided-requires c).At-loop-level in record { lent = c.requires.lent; fits = (first_fits w, second_fits w) }
+    let w = here (goal.at.pair_decided-requires c).At-loop-level in record { masks = c.requires.masks; fits = (first_fits w, second_fits w) }
 
 pub fill_tables-requires-then-pair_decided : goal.fill_tables-requires-then-pair_decided
 fill_tables-requires-then-pair_decided c = in_room (here (goal.at.fill_tables-requires-then-pair_decided c).At-loop-level)

@@ -1,14 +1,8 @@
 -- `finding::find` meets its contract. The invariant: the value does not occur in what is passed. Assumes nothing.
-use Rattle.std.proofs.Common.{◌≡◌, ℕ, ◌-◌, subst, arith, eq-eqb, ne_eqb}
+use Rattle.std.proofs.Common.{◌≡◌, ℕ, subst, arith, eq-eqb, ne_eqb}
 use Rattle.finding.specs.Inner.Finding.{NoneBefore, is_at}
 use Rattle.finding.proofs.Firsts.{passed_one, first_here, first_none}
 use Rattle.finding.proofs.find.Goals as goal
-
-pub pass-i-requires : goal.pass-i-requires
-pass-i-requires c = c.requires
-
-pub loop-i-init : goal.loop-i-init
-loop-i-init c = c.pass-i.ensures
 
 pub returns-then-tablebase-i : goal.returns-then-tablebase-i
 returns-then-tablebase-i c = first_here c.loop-i.invariant (eq-eqb _ _ c.if-tablebase-i.true)

@@ -1,27 +1,32 @@
--- `finding::has_void` meets its contract. The invariant: what the entries passed say. Assumes nothing.
-use Rattle.std.proofs.Common.{◌≡◌, ℕ, ◌-◌, ◌≤◌, Bool, true, false, ◌||◌, eqb, length, get_or, drop, sym, refl, ap, ◌∙◌, arith, rules}
+-- `finding::has_void` meets its contract. The invariant: what the entries passed say, and those that are left. Assumes nothing.
+use Rattle.std.proofs.Common.{◌≡◌, ℕ, suc, Bool, true, false, ◌||◌, eqb, get_or, length, drop, sym, refl, ap, ◌∙◌, arith, drop-cons, add-one}
 use lib.Seq.{drop-length}
 use Rattle.lists.specs.Lists.{any}
 use Rattle.game.specs.Game.{void_entry}
-use Rattle.finding.proofs.Down.{drop_down}
 use Rattle.finding.proofs.has_void.Goals as goal
 
-first : (a b : Bool) → (a || b) ≡ elim a [ true ↦ true | false ↦ b ]
-first true b = refl
-first false b = refl
+-- one entry more
+step : (a b c : Bool) → ((a || b) || c) ≡ (b || elim a [ true ↦ true | false ↦ c ])
+step true true c = refl
+step true false c = refl
+step false true c = refl
+step false false c = refl
 
-pub loop-i-init : goal.loop-i-init
-loop-i-init c = (omega arith, rw (drop-length c.args.part.now))
+none : (b : Bool) → b ≡ (b || false)
+none true = refl
+none false = refl
 
-pub loop-i-preserved : goal.loop-i-preserved
-loop-i-preserved c =
-    let p = c.args.part.now in (
-      omega arith,
-      ap (λ (t : Bool). eqb (get_or p (c.loop-i.i - 1) 0) void_entry || t) c.loop-i.invariant.1 ∙ first (eqb (get_or p (c.loop-i.i - 1) 0) void_entry) _
-          ∙ sym (ap (any (λ e. eqb e void_entry)) (drop_down c.loop-i.i p c.loop-i-test.true c.loop-i.invariant.0)),
-    )
+pub loop-e-preserved : goal.loop-e-preserved
+loop-e-preserved c =
+    let p = c.args.part.now in
+    let i : ℕ = c.loop-e.e-index in
+    let f = c.loop-e.found in
+    ap (λ (k : ℕ). (eqb (get_or p i 0) void_entry || f) || any (λ e. eqb e void_entry) (drop k p)) (add-one i)
+    ∙ step (eqb (get_or p i 0) void_entry) f (any (λ e. eqb e void_entry) (drop (suc i) p))
+    ∙ sym (ap (λ l. f || any (λ e. eqb e void_entry) l) (drop-cons p i 0 (omega arith))) ∙ c.loop-e.invariant
 
 pub returns : goal.returns
 returns c =
-    let e : c.loop-i.i ≡ 0 = omega arith in
-    c.loop-i.invariant.1 ∙ ap (λ (i : ℕ). any (λ e. eqb e void_entry) (drop i c.args.part.now)) e
+    let p = c.args.part.now in
+    let e : c.loop-e.e-index ≡ length p = omega arith in
+    none c.loop-e.found ∙ rw (e, drop-length p) at c.loop-e.invariant

@@ -1,5 +1,5 @@
 -- `finding::in_eight` meets its contract. Assumes nothing.
-use Rattle.std.proofs.Common.{Bool, ◌||◌, ◌∙◌, ap₂, rules}
+use Rattle.std.proofs.Common.{Bool, ◌||◌, ◌∙◌, ap₂}
 use Rattle.finding.proofs.Occurs.{occurs_split}
 use Rattle.finding.proofs.in_eight.Goals as goal
 

@@ -1,8 +1,6 @@
 -- `finding::pass` meets its contract. The invariant: the value does not occur in what is passed. Assumes nothing.
-use Rattle.std.proofs.Common.{◌-◌, sym, ◌∙◌, arith}
+use Rattle.std.proofs.Common.{◌-◌}
 use Rattle.finding.specs.Inner.Finding.{NoneBefore, is_at}
-use Rattle.finding.proofs.Occurs.{occurs_none}
-use Rattle.finding.proofs.Firsts.{passed_none, passed_more}
 use Rattle.finding.proofs.pass.Given as goal
 
 abbrev pub invariant-loop-i : goal.invariant-loop-i

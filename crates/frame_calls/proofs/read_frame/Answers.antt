@@ -1,16 +1,17 @@
 -- `frame_calls::read_frame` meets its contract: the refusal of the frame taken apart, then that of its stones, or its position. Assumes nothing.
-use mathlib.Core.Path.{◌≡◌, sym, ap, ◌∙◌}
+use mathlib.Core.Path.{◌≡◌, refl, sym, ap, ◌∙◌}
 use mathlib.Core.Bool.{Bool, true, false, cond}
 use mathlib.Core.List.{List, [], ◌∷◌}
 use Prim.Native.Nat.{ℕ, ◌*◌}
 use native.Mathlib.Omega.{arith}
-use borrow.Author.Rules.{rules}
 use Rattle.sets.specs.Sets.{members}
 use Rattle.refusals.specs.Refusals.{refusal}
 use Rattle.refusals.specs.Conditions.{counts_wrong, frame_picks, read_picks}
-use Rattle.answers.specs.Answers.{accepted, refused, number, frame_read}
-use Rattle.frame_calls.specs.ReadFrameCall.{frame_position, read_frame_call, taken_apart}
+use Rattle.std.specs.Prelude.{Result, Ok, Err}
 use Rattle.answers.specs.declared.Frame.{Frame}
+use Rattle.answers.specs.declared.Refusal.{Refusal}
+use Rattle.answers.specs.Answers.{accepted, refused, refusal_number, frame_read}
+use Rattle.frame_calls.specs.ReadFrameCall.{frame_position, read_frame_call, taken_apart}
 use Rattle.refusals.proofs.FrameConditions.{accepted_frame, frame_refused, stones_are, stones_decide}
 use Rattle.answers.proofs.Answering.{answer_refused, answer_accepted, refused_number, accepted_values}
 use Rattle.frame_calls.proofs.read_frame.Goals as goal
@@ -42,20 +43,21 @@ module _ (f : List ℕ) where
     unfolding read_frame_call
     position h = ap accepted given.1 ∙ answer_accepted (refusal (read_picks f)) (frame_position f) (counted false h)
 
+left : (f : List ℕ) (r : Result Frame Refusal) → ((p : Frame) → r ≡ Ok p → ⊥) → frame_read r ≡ taken_apart f → frame_read r ≡ read_frame_call f
+left f (Ok p) h e = absurd (h p refl)
+left f (Err r) h e = turned_back f (refusal_number r) e
+
 pub returns-in_default : goal.returns-in_default
-returns-in_default c =
-    let q = c.in_default.is in
-    let n = c.number_of.ensures ∙ ap (λ (r : Frame). number (frame_read r)) q in
-    ap refused n ∙ turned_back c.args.frame.now _ (sym (ap frame_read q) ∙ c.take_apart-read.ensures)
+returns-in_default c = left c.args.frame.now c.take_apart-read.result c.in_default.not-Ok c.take_apart-read.ensures
 
 pub returns-then-sides_wrong : goal.returns-then-sides_wrong
 returns-then-sides_wrong c =
-    let p = c.in-Position in
-    stones-turned c.args.frame.now p.rings p.mover p.opponent (sym (ap frame_read p.is) ∙ c.take_apart-read.ensures)
+    let p = c.in-Ok.position in
+    stones-turned c.args.frame.now p.rings p.mover p.opponent (sym (ap frame_read c.in-Ok.is) ∙ c.take_apart-read.ensures)
     (sym c.if-sides_wrong.true ∙ c.sides_wrong.ensures)
 
 pub returns : goal.returns
 returns c =
-    let p = c.in-Position in
-    position c.args.frame.now p.rings p.mover p.opponent (sym (ap frame_read p.is) ∙ c.take_apart-read.ensures)
+    let p = c.in-Ok.position in
+    position c.args.frame.now p.rings p.mover p.opponent (sym (ap frame_read c.in-Ok.is) ∙ c.take_apart-read.ensures)
     (sym c.if-sides_wrong.false ∙ c.sides_wrong.ensures)

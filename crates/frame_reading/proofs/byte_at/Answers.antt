@@ -2,7 +2,6 @@
 use mathlib.Core.Path.{ap₂}
 use Prim.Native.Nat.{ℕ, ◌+◌, ◌*◌}
 use native.Mathlib.Omega.{arith}
-use borrow.Author.Rules.{rules}
 use Rattle.frames.specs.Frame.{byte_of}
 use Rattle.frame_reading.proofs.Sets.{inside_at_lem}
 use Rattle.frame_reading.proofs.byte_at.Goals as goal

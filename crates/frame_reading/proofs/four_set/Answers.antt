@@ -2,7 +2,6 @@
 use mathlib.Core.Path.{refl}
 use Prim.Native.Nat.{◌<◌}
 use native.Mathlib.Omega.{arith}
-use borrow.Author.Rules.{rules}
 use Rattle.board.specs.Board.{digit}
 use Rattle.board.proofs.Sides.{digit_lt}
 use Rattle.frame_reading.proofs.four_set.Goals as goal

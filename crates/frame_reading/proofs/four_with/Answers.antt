@@ -1,6 +1,5 @@
 -- `frame_reading::four_with` meets its contract: the set of one byte. Assumes nothing.
 use mathlib.Core.Path.{sym, ◌∙◌}
-use borrow.Author.Rules.{rules}
 use Rattle.frame_reading.proofs.Sets.{set_one}
 use Rattle.frame_reading.proofs.four_with.Goals as goal
 

@@ -1,7 +1,6 @@
 -- `frame_reading::frame_wrong` meets its contract: the length decides, or the characters. Assumes nothing.
 use mathlib.Core.Path.{sym, ap, ◌∙◌}
 use mathlib.Core.Bool.{Bool, ◌||◌}
-use borrow.Author.Rules.{rules}
 use Rattle.frames.specs.Frame.{any_outside, frame_wrong}
 use Rattle.frame_reading.proofs.frame_wrong.Goals as goal
 

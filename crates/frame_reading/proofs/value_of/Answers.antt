@@ -1,7 +1,6 @@
 -- `frame_reading::value_of` meets its contract. Assumes nothing.
 use native.Mathlib.Omega.{arith}
 use borrow.Author.Tests.{le-ltb, lt-ltb}
-use borrow.Author.Rules.{rules}
 use Rattle.frames.specs.Frame.{value_of}
 use Rattle.frames.proofs.Characters.{inside}
 use Rattle.frame_reading.proofs.value_of.Goals as goal

@@ -5,7 +5,6 @@ use mathlib.Core.List.{List}
 use native.Mathlib.Omega.{arith}
 use lib.ListN.{length}
 use borrow.Author.Tests.{eq-eqb, ne_eqb}
-use borrow.Author.Rules.{rules}
 use Rattle.frames.specs.Frame.{frame_wrong, frame_length, rings_in, board_in}
 use Rattle.refusals.specs.Refusals.{Picked, refusal_table, picked_rows}
 use Rattle.refusals.specs.Conditions.{frame_picks, rings_wrong, frame_length_wrong, value_wrong}

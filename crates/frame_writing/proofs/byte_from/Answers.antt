@@ -3,7 +3,6 @@ use mathlib.Core.Path.{sym, ap, ◌∙◌}
 use mathlib.Core.List.{List}
 use Prim.Native.Nat.{ℕ, ◌+◌}
 use lib.ListN.{get_or}
-use borrow.Author.Rules.{rules}
 use Rattle.board.proofs.Sides.{value_le}
 use Rattle.frame_writing.proofs.Stored.{packed_four}
 use Rattle.frame_writing.proofs.byte_from.Goals as goal

@@ -1,6 +1,5 @@
 -- `frame_writing::character_of` meets its contract. Assumes nothing.
 use borrow.Author.Tests.{le-ltb, lt-ltb}
-use borrow.Author.Rules.{rules}
 use Rattle.frames.specs.Frame.{character_of}
 use Rattle.frame_writing.proofs.character_of.Goals as goal
 

@@ -1,5 +1,4 @@
 -- `frame_writing::write` meets its contract: the rings, then the points. Assumes nothing.
-use borrow.Author.Rules.{rules}
 use Rattle.frame_writing.proofs.Stored.{frame_stored}
 use Rattle.frame_writing.proofs.write.Goals as goal
 

@@ -1,6 +1,6 @@
--- `geometry::degree` meets its contract: the lent table's rule. Assumes nothing.
-use borrow.Author.Rules.{rules}
+-- `geometry::degree` meets its contract: the table's rule. Assumes nothing.
+use Rattle.geometry.proofs.Tables.{degree_table}
 use Rattle.geometry.proofs.degree.Goals as goal
 
 pub returns : goal.returns
-returns c = c.requires.degree_table.at c.args.p c.requires.p_bound
+returns c = degree_table.at c.args.p c.requires

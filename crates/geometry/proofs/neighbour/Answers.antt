@@ -1,6 +1,6 @@
--- `geometry::neighbour` meets its contract: the lent table's rule. Assumes nothing.
-use borrow.Author.Rules.{rules}
+-- `geometry::neighbour` meets its contract: the table's rule. Assumes nothing.
+use Rattle.geometry.proofs.Tables.{neighbour_table}
 use Rattle.geometry.proofs.neighbour.Goals as goal
 
 pub returns : goal.returns
-returns c = c.requires.neighbour_table.at c.args.p c.args.j c.requires.p_bound.0 c.requires.p_bound.1
+returns c = neighbour_table.at c.args.p c.args.j c.requires.0 c.requires.1

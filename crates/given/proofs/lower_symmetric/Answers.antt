@@ -13,7 +13,7 @@ use Rattle.given.proofs.lower_symmetric.Goals as goal
 pub is_symmetric-requires : goal.is_symmetric-requires
 is_symmetric-requires c =
     let a = c.args in
-    let p = c.requires.pair in
+    let p = c.requires in
     let q = p.0 in
     let few = c.if-o-eq3.false in
     let w : InRange a.k (a.o - 1) a.m = record {
@@ -23,8 +23,6 @@ is_symmetric-requires c =
       opponent_high = q.mover_high;
     } in
     record {
-      binomials = c.requires.binomial_table;
-      images = c.requires.ring_images;
       small = q.small;
       mover_most = omega (arith, q.opponent_high, p.1);
       opponent_most = omega (arith, q.mover_high, p.1);
@@ -34,7 +32,7 @@ is_symmetric-requires c =
 pub returns : goal.returns
 returns c =
     let a = c.args in
-    let q = c.requires.pair.0 in
+    let q = c.requires.0 in
     let few = c.if-o-eq3.false in
     decides_same (TableSymmetric symmetries a.rings a.k a.tablebase.now (a.o - 1) a.m)
     (4 ≤ a.o → TableSymmetric symmetries a.rings a.k a.tablebase.now (a.o - 1) a.m) (λ w h. w)

@@ -4,7 +4,6 @@ use Prim.Native.Nat.{◌*◌}
 use native.Mathlib.Omega.{arith}
 use Rattle.board.specs.Board.{position_of}
 use Rattle.stepping.proofs.NextPosition.{Ranked, ranked, ranked_more, ranked_next}
-use borrow.Author.Rules.{rules}
 use Rattle.halving.proofs.ahead.Goals as goal
 use Rattle.halving.proofs.ahead.Goals.{Then-r-end}
 

@@ -4,7 +4,6 @@ use Prim.Native.Nat.{◌*◌}
 use native.Mathlib.Omega.{arith}
 use Rattle.sizes.specs.Size.{size}
 use Rattle.ending.proofs.Blocked.{free_none}
-use borrow.Author.Rules.{rules}
 use Rattle.halving.proofs.sweep_blocked.Goals as goal
 
 pub returns-then-all_free : goal.returns-then-all_free

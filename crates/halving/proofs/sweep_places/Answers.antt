@@ -8,7 +8,6 @@ use Rattle.sizes.specs.Size.{size}
 use Rattle.deciding.specs.Inner.Fits.{Lies}
 use Rattle.ending.specs.Inner.Blocked.{blocked_first, blocked_range}
 use Rattle.ending.proofs.Blocked.{blocked_none, blocked_lengths, range_after}
-use borrow.Author.Rules.{rules}
 use Rattle.halving.proofs.sweep_places.Goals as goal
 
 pub returns-then-half-eq0 : goal.returns-then-half-eq0
@@ -22,13 +21,13 @@ returns-then-half-eq0 c =
 
 pub sweep_halves-requires : goal.sweep_halves-requires
 sweep_halves-requires c =
-    let p = c.requires in record { lent = p.lent; lies = (p.lies, omega (arith, c.if-half-eq0.false), omega (arith, p.lies.whole)) }
+    let p = c.requires in record { masks = p.masks; lies = (p.lies, omega (arith, c.if-half-eq0.false), omega (arith, p.lies.whole)) }
 
 pub sweep_rest-requires-2 : goal.sweep_rest-requires-2
 sweep_rest-requires-2 c =
     let a = c.args in
     let p = c.requires in
-    let e = ap length c.sweep_halves.ensures ∙ blocked_lengths a.rings a.table a.tablebase.now _ in record { lent = p.lent; lies = (subst (λ (n : ℕ). Lies (8 * a.rings) a.table n) (sym e) p.lies, omega (arith, p.lies.whole)) }
+    let e = ap length c.sweep_halves.ensures ∙ blocked_lengths a.rings a.table a.tablebase.now _ in record { masks = p.masks; lies = (subst (λ (n : ℕ). Lies (8 * a.rings) a.table n) (sym e) p.lies, omega (arith, p.lies.whole)) }
 
 pub returns : goal.returns
 returns c =

@@ -13,7 +13,6 @@ use Rattle.inserting.specs.Inner.Inserting.{Inserting}
 use Rattle.board.proofs.Counts.{count_members}
 use Rattle.inserting.proofs.Puts.{vacant_low, put_stone_on, put_stone_board}
 use Rattle.inserting.proofs.Insertions.{stones_few, inserting_first}
-use borrow.Author.Rules.{rules}
 use Rattle.inserting.proofs.begin.Goals as goal
 use Rattle.inserting.proofs.begin.Goals.{After-contribution-here, After-count_below, Start}
 
@@ -49,7 +48,6 @@ pub rank-whole-requires : goal.rank-whole-requires
 rank-whole-requires c =
     let a = c.args in
     record {
-      binomials = c.requires.rankable.binomials;
       few = c.requires.rankable.few;
       on = subst (λ (p : Position). OnBoard a.points p) (sym c.put_stone.ensures)
           (put_stone_on a.points a.position c.requires.rankable.on a.at c.requires.vacant a.theirs);
@@ -86,7 +84,7 @@ overflow_add-o c =
 
 pub contribution-here-requires : goal.contribution-here-requires
 contribution-here-requires c =
-    record { binomial_table = c.requires.rankable.binomials; p_bound = omega (arith, few (goal.at.contribution-here-requires c).After-count_below, at_low (goal.at.contribution-here-requires c).Start, digit_lt c.args.theirs) }
+    omega (arith, few (goal.at.contribution-here-requires c).After-count_below, at_low (goal.at.contribution-here-requires c).Start, digit_lt c.args.theirs)
 
 -- the walk begun
 begun : (c : After-contribution-here)

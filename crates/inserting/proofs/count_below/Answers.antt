@@ -6,7 +6,6 @@ use lib.Bits.{bit_and, and_mask}
 use lib.Pow.{pow_pos, split}
 use Rattle.sets.specs.Sets.{members}
 use Rattle.sets.proofs.Laws.{shl_one, members_ones, members_all}
-use borrow.Author.Rules.{rules}
 use Rattle.inserting.proofs.count_below.Goals as goal
 
 pub overflow_sub-p : goal.overflow_sub-p

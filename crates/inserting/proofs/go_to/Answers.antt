@@ -1,9 +1,5 @@
 -- `inserting::go_to` meets its contract. The invariant: the walk stands, and has not passed the point. Assumes nothing.
-use Prim.Native.Nat.{◌-◌, ◌≤◌}
 use native.Mathlib.Omega.{arith}
-use Rattle.board.specs.Board.{board_of}
-use Rattle.inserting.specs.Inner.Inserting.{Inserting}
-use borrow.Author.Rules.{rules}
 use Rattle.inserting.proofs.go_to.Goals as goal
 
 pub pass-now-requires : goal.pass-now-requires

@@ -10,7 +10,6 @@ use Rattle.inserting.specs.Inner.Inserting.{Inserting}
 use Rattle.ranking.proofs.Steps.{below_small}
 use Rattle.ranking.proofs.Digits.{vacant_value, stone_value}
 use Rattle.inserting.proofs.Insertions.{Low, inserting_low, passed_vacant, stone_room, passed_stone}
-use borrow.Author.Rules.{rules}
 use Rattle.inserting.proofs.pass.Goals as goal
 use Rattle.inserting.proofs.pass.Goals.{After-contribution-new, After-has-x, Start}
 
@@ -52,11 +51,11 @@ overflow_add-o-then-has c =
 
 pub contribution-old-requires : goal.contribution-old-requires
 contribution-old-requires c =
-    record { binomial_table = c.requires.rankable.binomials; p_bound = omega (arith, room (goal.at.contribution-old-requires c).After-has-x, (low (goal.at.contribution-old-requires c).Start).some, at_low (goal.at.contribution-old-requires c).Start, short (goal.at.contribution-old-requires c).Start, digit_lt c.has-x.result, digit_lt c.args.theirs) }
+    omega (arith, room (goal.at.contribution-old-requires c).After-has-x, (low (goal.at.contribution-old-requires c).Start).some, at_low (goal.at.contribution-old-requires c).Start, short (goal.at.contribution-old-requires c).Start, digit_lt c.has-x.result, digit_lt c.args.theirs)
 
 pub contribution-new-requires : goal.contribution-new-requires
 contribution-new-requires c =
-    record { binomial_table = c.requires.rankable.binomials; p_bound = omega (arith, room (goal.at.contribution-new-requires c).After-has-x, (low (goal.at.contribution-new-requires c).Start).some, at_low (goal.at.contribution-new-requires c).Start, short (goal.at.contribution-new-requires c).Start, digit_lt c.has-x.result) }
+    omega (arith, room (goal.at.contribution-new-requires c).After-has-x, (low (goal.at.contribution-new-requires c).Start).some, at_low (goal.at.contribution-new-requires c).Start, short (goal.at.contribution-new-requires c).Start, digit_lt c.has-x.result)
 
 pub overflow_add-result-then-has : goal.overflow_add-result-then-has
 overflow_add-result-then-has c =

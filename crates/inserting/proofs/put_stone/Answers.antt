@@ -4,7 +4,6 @@ use mathlib.Core.Bool.{Bool}
 use Prim.Native.Nat.{ℕ}
 use Rattle.board.specs.declared.Position.{Position}
 use Rattle.inserting.specs.Inner.Inserting.{put_stone}
-use borrow.Author.Rules.{rules}
 use Rattle.inserting.proofs.put_stone.Goals as goal
 
 abbrev sides : ℕ → ℕ → Position

@@ -7,7 +7,6 @@ use Rattle.board.proofs.Sides.{digit_lt, length_board, board_values}
 use Rattle.ranking.proofs.Steps.{below_small}
 use Rattle.inserting.proofs.Puts.{vacant_low}
 use Rattle.inserting.proofs.Insertions.{Low, inserting_low, inserting_rank}
-use borrow.Author.Rules.{rules}
 use Rattle.inserting.proofs.rank_at.Goals as goal
 use Rattle.inserting.proofs.rank_at.Goals.{Start}
 
@@ -37,7 +36,7 @@ overflow_add-walk-2 c =
 
 pub contribution-requires : goal.contribution-requires
 contribution-requires c =
-    record { binomial_table = c.requires.rankable.binomials; p_bound = omega (arith, (low (goal.at.contribution-requires c).Start).few, (low (goal.at.contribution-requires c).Start).some, at_low (goal.at.contribution-requires c).Start, digit_lt c.args.theirs) }
+    omega (arith, (low (goal.at.contribution-requires c).Start).few, (low (goal.at.contribution-requires c).Start).some, at_low (goal.at.contribution-requires c).Start, digit_lt c.args.theirs)
 
 pub overflow_add-result : goal.overflow_add-result
 overflow_add-result c =

@@ -23,7 +23,7 @@ use Rattle.jumping.proofs.some_at.Goals.{After-rank_at-r}
 
 pub rank_at-r-requires : goal.rank_at-r-requires
 rank_at-r-requires c =
-    let j = c.requires.removing.1 in record { rankable = record { binomials = c.requires.probing.binomials; few = omega (arith, j.placed.small); on = j.placed.on }; vacant = (j.vacant, j.inserting) }
+    let j = c.requires.removing.1 in record { rankable = record { few = omega (arith, j.placed.small); on = j.placed.on }; vacant = (j.vacant, j.inserting) }
 
 -- the move without a removal leads to the board that is ranked
 ranked : (c : After-rank_at-r)

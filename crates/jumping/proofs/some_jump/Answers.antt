@@ -50,11 +50,10 @@ module _ (s : Start) where
 
   -- the position without the stone has a rank
   liftable : (o : ℕ) (made : o ≡ without s.args.position.mover s.args.stone.from)
-      → Rankable s.args.binomials.now (8 * s.args.rings) record { mover = s.args.position.opponent; opponent = o }
+      → Rankable (8 * s.args.rings) record { mover = s.args.position.opponent; opponent = o }
   liftable o made =
       let a = s.args in
       record {
-        binomials = s.requires.probing.binomials;
         few = few;
         on = (lifted_placed a.rings a.position s.requires.probing.placed a.stone.from o s.requires.movable.0.own made).on;
       }

@@ -26,24 +26,21 @@ found : (c : After-seek-at)
     c.args.layer.source.opponent c.loop-r.r)
 found c =
     let a = c.args in
-    placed_at a.maps.rings c.requires.lent.masks.small a.layer.source.mover a.layer.source.opponent c.loop-r.r
+    placed_at a.maps.rings c.requires.masks.small a.layer.source.mover a.layer.source.opponent c.loop-r.r
     (omega (arith, c.loop-r-test.true, c.loop-r.invariant.0))
     c.seek-at.result.position c.seek-at.ensures.1
 
 pub overflow_mul-points : goal.overflow_mul-points
-overflow_mul-points c = omega (arith, c.requires.lent.masks.small)
+overflow_mul-points c = omega (arith, c.requires.masks.small)
 
 pub size-size-requires : goal.size-size-requires
 size-size-requires c =
-    let p = c.requires.preceding in record {
-      binomial_table = c.requires.lent.binomials;
-      points_bound = (
-        omega
-            (arith, c.requires.lent.masks.small),
-        p.mover_most,
-        p.opponent_most,
-      );
-    }
+    let p = c.requires.preceding in (
+      omega
+          (arith, c.requires.masks.small),
+      p.mover_most,
+      p.opponent_most,
+    )
 
 pub find_source-r-requires : goal.find_source-r-requires
 find_source-r-requires c =
@@ -69,8 +66,7 @@ loop-r-init c =
 pub seek-at-requires : goal.seek-at-requires
 seek-at-requires c =
     record {
-      binomial_table = c.requires.lent.binomials;
-      rings_bound = (c.requires.lent.masks.small, omega (arith, c.loop-r-test.true, c.loop-r.invariant.0));
+      rings_bound = (c.requires.masks.small, omega (arith, c.loop-r-test.true, c.loop-r.invariant.0));
       stands = λ h. c.loop-r.invariant.5 (omega
           (arith, c.loop-r-test.true));
     }
@@ -81,13 +77,12 @@ mark_source-requires c =
     let p = c.requires.preceding in
     let w = found (goal.at.mark_source-requires c).After-seek-at in record {
       returning = record {
-        binomials = c.requires.lent.binomials;
         placed = w.0;
         room = room_before a.maps.rings (length c.loop-r.tablebase) a.layer.source a.back.capture a.back.part.start a.back.part.end
             (room_same p.room refl refl (sym c.loop-r.invariant.2)) c.loop-r.r
             (omega (arith, c.loop-r-test.true, c.loop-r.invariant.0)) _ w.1;
       };
-      masks = (c.requires.lent.masks, record { images = p.images; small = w.0.small; few = p.few; on = w.0.on });
+      masks = (c.requires.masks, record { small = w.0.small; few = p.few; on = w.0.on });
     }
 
 pub overflow_add-r : goal.overflow_add-r

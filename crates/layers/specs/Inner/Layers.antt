@@ -6,7 +6,6 @@ use Rattle.ranking.specs.Unrank.{unrank}
 use Rattle.rules.specs.Predecessors.{predecessors}
 use Rattle.game.specs.Game.{void_entry}
 use Rattle.classing.specs.declared.Maps.{Maps}
-use Rattle.imaging.specs.Inner.Images.{RingImages}
 use Rattle.marks.specs.Inner.Marks.{marked, places}
 use Rattle.marks.specs.Inner.Putting.{Room}
 use Rattle.returning.specs.declared.Back.{Back}
@@ -18,8 +17,7 @@ abbrev pub Stored : Source → ℕ → ℕ → Type 0
 Stored s n length = 3 ≤ s.mover → s.start + n ≤ length
 
 -- the table before a layer and the layer lie within a tablebase of a length, with the lent images and how many maps make a class
-pub record Preceding (lent : List ℕ) (length : ℕ) (maps : Maps) (back : Back) (layer : Layer) : Type 0 where
-  pub images : RingImages lent
+pub record Preceding (length : ℕ) (maps : Maps) (back : Back) (layer : Layer) : Type 0 where
   pub few : maps.count ≤ 16
   pub room : Room (8 * maps.rings) layer.source.opponent (layer.source.mover + digit back.capture) back.part.start back.part.end length
   pub mover_most : layer.source.mover ≤ 24

@@ -2,7 +2,6 @@
 use mathlib.Core.Path.{ap₂}
 use Prim.Native.Nat.{◌+◌, ◌^◌, ◌≤◌}
 use native.Mathlib.Omega.{arith}
-use borrow.Author.Rules.{rules}
 use Rattle.sizes.proofs.Multinomials.{size_small}
 use Rattle.layout.specs.Layout.{end}
 use Rattle.layout.proofs.end.Goals as goal
@@ -10,7 +9,7 @@ use Rattle.layout.proofs.end.Goals.{After-size}
 
 small : (c : After-size) → c.start.result + c.size.result ≤ 2 ^ 55
 small c =
-    omega (arith, c.size.ensures, size_small c.args.points c.args.m c.args.o c.requires.points_bound.0)
+    omega (arith, c.size.ensures, size_small c.args.points c.args.m c.args.o c.requires.0)
 
 pub overflow_add-result : goal.overflow_add-result
 overflow_add-result c = omega (arith, small (goal.at.overflow_add-result c).After-size)

@@ -1,7 +1,6 @@
 -- `layout::tablebase_length` meets its contract: all rows. Assumes nothing.
 use mathlib.Core.Path.{sym, ◌∙◌}
 use native.Mathlib.Omega.{arith}
-use borrow.Author.Rules.{rules}
 use Rattle.layout.proofs.Places.{length_is_lem}
 use Rattle.layout.proofs.tablebase_length.Goals as goal
 

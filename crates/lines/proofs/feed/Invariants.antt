@@ -9,6 +9,3 @@ use Rattle.lines.proofs.feed.Given as goal
 abbrev pub invariant-loop-i : goal.invariant-loop-i
 invariant-loop-i l =
     (l.i ≤ length l.block) × (length l.held ≡ most_kept) × (l.count ≤ most_kept) × Feeding l.tablebase l.block (take l.kept l.initial.held) l.initial.out l.i (take l.count l.held) l.out l.used
-
-abbrev pub decreases-loop-i : goal.decreases-loop-i
-decreases-loop-i l = length l.block - l.i

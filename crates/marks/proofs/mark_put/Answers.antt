@@ -31,8 +31,8 @@ module _ (s : Start) where
   few : 8 * s.args.rings ≤ 24
   few = omega (arith, s.requires.placed.small)
 
-  rankable : Rankable s.args.binomials.now (8 * s.args.rings) s.args.base
-  rankable = record { binomials = s.requires.binomials; few = few; on = s.requires.placed.on }
+  rankable : Rankable (8 * s.args.rings) s.args.base
+  rankable = record { few = few; on = s.requires.placed.on }
 
   -- a point of the set is vacant
   vacant : (p : ℕ) → bit s.args.points p ≡ 1 → Vacant board p

@@ -4,7 +4,6 @@ use Rattle.sets.specs.Sets.{bit}
 use Rattle.board.specs.declared.Position.{Position}
 use Rattle.board.specs.Board.{count, digit, board_of}
 use Rattle.sizes.specs.Size.{size}
-use Rattle.sizes.specs.Inner.Binomial.{BinomialTable}
 use Rattle.plies.specs.Inner.Positions.{Placed}
 use Rattle.parts.specs.declared.Part.{Part}
 
@@ -23,15 +22,13 @@ pub record Room (points m o start end places : ℕ) : Type 0 where
   pub whole : end ≡ start + size points m o
   pub within : end ≤ places
 
--- a position, the lent binomials, and its table among so many places
-pub record Markable (lent : List ℕ) (length rings : ℕ) (part : Part) (position : Position) : Type 0 where
-  pub binomials : BinomialTable lent
+-- a position, and its table among so many places
+pub record Markable (length rings : ℕ) (part : Part) (position : Position) : Type 0 where
   pub placed : Placed rings position
   pub room : Room (8 * rings) (count 1 (board_of (8 * rings) position)) (count 2 (board_of (8 * rings) position)) part.start part.end length
 
 -- the same of the positions with one stone more, the opponent's or the mover's, at one of some vacant points
-pub record Putting (lent : List ℕ) (length rings : ℕ) (part : Part) (base : Position) (theirs : Bool) (points : ℕ) : Type 0 where
-  pub binomials : BinomialTable lent
+pub record Putting (length rings : ℕ) (part : Part) (base : Position) (theirs : Bool) (points : ℕ) : Type 0 where
   pub placed : Placed rings base
   pub vacant : VacantAll rings base points
   pub room : Room (8 * rings) (count 1 (board_of (8 * rings) base) + (1 - digit theirs)) (count 2 (board_of (8 * rings) base) + digit theirs)

@@ -1,5 +1,4 @@
 -- `masks::mill` meets its contract: the rule of the masks. Assumes nothing.
-use borrow.Author.Rules.{rules}
 use Rattle.masks.proofs.mill.Goals as goal
 
 pub returns : goal.returns

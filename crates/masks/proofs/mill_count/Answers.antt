@@ -5,7 +5,6 @@ use native.Mathlib.Omega.{arith}
 use lib.ListN.{length}
 use Rattle.geometry.specs.Geometry.{mills}
 use Rattle.geometry.proofs.Geometry.{all_mills, ring_mills_lem}
-use borrow.Author.Rules.{rules}
 use Rattle.masks.proofs.mill_count.Goals as goal
 
 pub returns-then-rings-eq3 : goal.returns-then-rings-eq3

@@ -1,24 +1,18 @@
 -- `masks::mills_placed` meets its contract. The invariant: the mills passed stand at their points. Assumes nothing.
 use mathlib.Core.Path.{◌≡◌, refl, ap, ◌∙◌}
-use Prim.Native.Nat.{ℕ, suc, ◌+◌, ◌-◌, ◌≤◌}
+use Prim.Native.Nat.{ℕ, suc, ◌+◌}
 use native.Mathlib.Omega.{arith}
 use lib.ListN.{replicate}
 use Rattle.masks.specs.Inner.Placing.{mill_placed, mills_placed}
-use borrow.Author.Rules.{rules}
 use Rattle.masks.proofs.mills_placed.Goals as goal
 
 pub loop-i-init : goal.loop-i-init
 unfolding mills_placed
-loop-i-init c = (omega arith, refl)
+loop-i-init c = refl
 
 pub loop-i-preserved : goal.loop-i-preserved
 unfolding mills_placed
 loop-i-preserved c =
     let i : ℕ = c.loop-i.i in
     let e : suc i ≡ i + 1 = omega arith in
-    (omega arith, c.place_mill.ensures ∙ ap (mill_placed i) c.loop-i.invariant.1 ∙ ap (λ (n : ℕ). mills_placed n (replicate {A = ℕ} 72 0)) e)
-
-pub returns : goal.returns
-returns c =
-    let e : c.loop-i.i ≡ c.mill_count-count.result = omega arith in
-    c.loop-i.invariant.1 ∙ ap (λ (n : ℕ). mills_placed n (replicate {A = ℕ} 72 0)) (e ∙ c.mill_count-count.ensures.0)
+    c.place_mill.ensures ∙ ap (mill_placed i) c.loop-i.invariant ∙ ap (λ (n : ℕ). mills_placed n (replicate {A = ℕ} 72 0)) e

@@ -3,7 +3,6 @@ use mathlib.Core.Path.{◌≡◌, sym, ap, ◌∙◌}
 use mathlib.Core.List.{List}
 use Prim.Native.Nat.{ℕ, suc, ◌<◌}
 use native.Mathlib.Omega.{arith}
-use borrow.Author.Rules.{rules}
 use lib.ListN.{length, get_or, drop}
 use lib.Seq.{drop-cons, drop-length}
 use Rattle.sets.specs.Sets.{with, with_all, set_from}
@@ -31,7 +30,7 @@ two : (c : After-with-two)
 two c =
     let p : ℕ = c.args.p in
     let l : List ℕ = neighbours 3 p in
-    let some = neighbours_some p c.requires.2 in
+    let some = neighbours_some p c.requires in
     more l 1 c.with-first.result c.neighbour-2.result c.with-two.result (omega (arith, some)) c.neighbour-2.ensures
     c.with-two.ensures
     (more l 0 0 c.neighbour.result c.with-first.result (omega (arith, some)) c.neighbour.ensures c.with-first.ensures (sym
@@ -45,17 +44,17 @@ three c =
     let p : ℕ = c.args.p in
     let l : List ℕ = neighbours 3 p in
     more l 2 c.with-two.result c.neighbour-3.result c.with-three.result
-    (omega (arith, neighbours_some p c.requires.2, c.if-degree-eq2.false, c.degree-degree.ensures))
+    (omega (arith, neighbours_some p c.requires, c.if-degree-eq2.false, c.degree-degree.ensures))
     c.neighbour-3.ensures c.with-three.ensures
     (two c.before.before.before)
 
 pub with-first-requires : goal.with-first-requires
 with-first-requires c =
-    omega (arith, c.neighbour.ensures, neighbour_low c.args.p 0 (omega (arith, neighbours_some c.args.p c.requires.2)))
+    omega (arith, c.neighbour.ensures, neighbour_low c.args.p 0 (omega (arith, neighbours_some c.args.p c.requires)))
 
 pub with-two-requires : goal.with-two-requires
 with-two-requires c =
-    omega (arith, c.neighbour-2.ensures, neighbour_low c.args.p 1 (omega (arith, neighbours_some c.args.p c.requires.2)))
+    omega (arith, c.neighbour-2.ensures, neighbour_low c.args.p 1 (omega (arith, neighbours_some c.args.p c.requires)))
 
 pub returns-then-degree-eq2 : goal.returns-then-degree-eq2
 returns-then-degree-eq2 c =
@@ -67,7 +66,7 @@ with-three-requires c =
     omega (
       arith,
       c.neighbour-3.ensures,
-      neighbour_low c.args.p 2 (omega (arith, neighbours_some c.args.p c.requires.2, c.if-degree-eq2.false, c.degree-degree.ensures)),
+      neighbour_low c.args.p 2 (omega (arith, neighbours_some c.args.p c.requires, c.if-degree-eq2.false, c.degree-degree.ensures)),
     )
 
 pub returns-then-degree-eq3 : goal.returns-then-degree-eq3
@@ -77,7 +76,7 @@ returns-then-degree-eq3 c =
 -- there is a fourth, and no fifth
 four : (c : Else-degree-eq3) → length (neighbours 3 c.args.p) ≡ 4
 four c =
-    omega (arith, neighbours_some c.args.p c.requires.2, neighbours_few c.args.p c.requires.2, c.if-degree-eq2.false, c.if-degree-eq3.false, c.degree-degree.ensures)
+    omega (arith, neighbours_some c.args.p c.requires, neighbours_few c.args.p c.requires, c.if-degree-eq2.false, c.if-degree-eq3.false, c.degree-degree.ensures)
 
 pub with-requires : goal.with-requires
 with-requires c =

@@ -1,5 +1,4 @@
 -- `masks::neighbours` meets its contract: the rule of the masks. Assumes nothing.
-use borrow.Author.Rules.{rules}
 use Rattle.masks.proofs.neighbours.Goals as goal
 
 pub returns : goal.returns

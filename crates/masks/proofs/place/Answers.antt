@@ -8,7 +8,6 @@ use lib.ListN.{get_or}
 use Rattle.board.specs.Board.{digit}
 use Rattle.board.proofs.Sides.{digit_lt}
 use Rattle.masks.specs.Inner.Placing.{placed}
-use borrow.Author.Rules.{rules}
 use Rattle.masks.proofs.place.Goals as goal
 use Rattle.masks.proofs.place.Goals.{After-taken-1}
 

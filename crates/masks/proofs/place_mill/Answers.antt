@@ -4,17 +4,16 @@ use Prim.Native.Nat.{ℕ}
 use native.Mathlib.Omega.{arith}
 use Rattle.geometry.proofs.Geometry.{mill_points}
 use Rattle.masks.specs.Inner.Placing.{placed, mill_placed}
-use borrow.Author.Rules.{rules}
 use Rattle.masks.proofs.place_mill.Goals as goal
 
 pub place-requires : goal.place-requires
-place-requires c = omega (arith, c.mill_point.ensures, (mill_points c.args.mill c.requires.1).0)
+place-requires c = omega (arith, c.mill_point.ensures, (mill_points c.args.mill c.requires).0)
 
 pub place-requires-2 : goal.place-requires-2
-place-requires-2 c = omega (arith, c.mill_point-2.ensures, (mill_points c.args.mill c.requires.1).1)
+place-requires-2 c = omega (arith, c.mill_point-2.ensures, (mill_points c.args.mill c.requires).1)
 
 pub place-requires-3 : goal.place-requires-3
-place-requires-3 c = omega (arith, c.mill_point-3.ensures, (mill_points c.args.mill c.requires.1).2)
+place-requires-3 c = omega (arith, c.mill_point-3.ensures, (mill_points c.args.mill c.requires).2)
 
 pub returns : goal.returns
 unfolding mill_placed

@@ -2,7 +2,7 @@
 -- nothing.
 use Rattle.std.specs.Prelude.{◌≡◌, List, [], ℕ, ◌+◌, ◌*◌, ◌≤◌, ◌<◌, get_or}
 use Rattle.sets.specs.Sets.{set_from}
-use Rattle.geometry.specs.Geometry.{neighbours, mills, mills_through}
+use Rattle.geometry.specs.Geometry.{neighbours, mills_through}
 
 -- a place for each point: its neighbours; then two for each: its mills, and empty sets where it has fewer
 pub record Masks (rings : ℕ) (masks : List ℕ) : Type 0 where

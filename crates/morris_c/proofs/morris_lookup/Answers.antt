@@ -1,9 +1,15 @@
 -- `morris_c::morris_lookup` meets its contract: the number and the value of what `morris::lookup` answers. Assumes nothing.
 use mathlib.Core.Path.{ap, ◌∙◌}
-use borrow.Author.Rules.{rules}
+use mathlib.Core.List.{[], ◌∷◌}
+use Prim.Native.Nat.{ℕ}
 use Rattle.answers.specs.Answers.{Answer, number, value}
+use Rattle.answers.proofs.Answering.{met_number, lone_value}
 use Rattle.morris_c.proofs.morris_lookup.Goals as goal
 
 pub returns : goal.returns
 returns c =
-    let e = c.lookup.ensures in record { refusal = c.looked.ensures.refusal ∙ ap number e; entry = c.looked.ensures.entry ∙ ap (λ (a : Answer). value a 0) e }
+    let e = c.lookup.ensures in
+    record {
+      refusal = c.one.ensures.refusal ∙ met_number (λ (n : ℕ). n ∷ []) c.lookup.result ∙ ap number e;
+      entry = lone_value c.lookup.result _ c.one.ensures.value ∙ ap (λ (a : Answer). value a 0) e;
+    }

@@ -1,9 +1,11 @@
 -- `morris_c::morris_make_move` meets its contract: the number of what `morris::make_move` answers, and its target. Assumes nothing.
 use mathlib.Core.Path.{ap, ◌∙◌}
-use borrow.Author.Rules.{rules}
+use mathlib.Core.List.{[]}
 use Rattle.answers.specs.Answers.{number}
+use Rattle.answers.proofs.Answering.{met_number}
 use Rattle.morris_c.proofs.morris_make_move.Goals as goal
 
 pub returns : goal.returns
 returns c =
-    let e = c.make_move.ensures.answer in record { refusal = c.made.ensures ∙ ap number e; target = c.make_move.ensures.target }
+    let e = c.make_move.ensures.answer in
+    record { refusal = c.done.ensures ∙ met_number (λ (u : Unit {0}). []) c.make_move.result ∙ ap number e; target = c.make_move.ensures.target }

@@ -1,6 +1,5 @@
 -- `morris_c::morris_read_frame` meets its contract: the number and the values of what `morris::read_frame` answers. Assumes nothing.
 use mathlib.Core.Path.{ap, ◌∙◌}
-use borrow.Author.Rules.{rules}
 use Rattle.answers.specs.Answers.{Answer, number, value}
 use Rattle.morris_c.proofs.morris_read_frame.Goals as goal
 

@@ -1,9 +1,11 @@
 -- `morris_c::morris_unrank` meets its contract: the number of what `morris::unrank` answers, and its target. Assumes nothing.
 use mathlib.Core.Path.{ap, ◌∙◌}
-use borrow.Author.Rules.{rules}
+use mathlib.Core.List.{[]}
 use Rattle.answers.specs.Answers.{number}
+use Rattle.answers.proofs.Answering.{met_number}
 use Rattle.morris_c.proofs.morris_unrank.Goals as goal
 
 pub returns : goal.returns
 returns c =
-    let e = c.unrank.ensures.answer in record { refusal = c.unranked.ensures ∙ ap number e; target = c.unrank.ensures.target }
+    let e = c.unrank.ensures.answer in
+    record { refusal = c.done.ensures ∙ met_number (λ (u : Unit {0}). []) c.unrank.result ∙ ap number e; target = c.unrank.ensures.target }

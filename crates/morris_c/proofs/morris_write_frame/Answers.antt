@@ -1,9 +1,16 @@
 -- `morris_c::morris_write_frame` meets its contract: the number and the value of what `morris::write_frame` answers, and its target. Assumes nothing.
 use mathlib.Core.Path.{ap, ◌∙◌}
-use borrow.Author.Rules.{rules}
+use mathlib.Core.List.{[], ◌∷◌}
+use Prim.Native.Nat.{ℕ}
 use Rattle.answers.specs.Answers.{Answer, number, value}
+use Rattle.answers.proofs.Answering.{met_number, lone_value}
 use Rattle.morris_c.proofs.morris_write_frame.Goals as goal
 
 pub returns : goal.returns
 returns c =
-    let e = c.write_frame.ensures.answer in record { refusal = c.frame_written.ensures.refusal ∙ ap number e; frame = c.write_frame.ensures.target; written = c.frame_written.ensures.written ∙ ap (λ (a : Answer). value a 0) e }
+    let e = c.write_frame.ensures.answer in
+    record {
+      refusal = c.one.ensures.refusal ∙ met_number (λ (n : ℕ). n ∷ []) c.write_frame.result ∙ ap number e;
+      frame = c.write_frame.ensures.target;
+      written = lone_value c.write_frame.result _ c.one.ensures.value ∙ ap (λ (a : Answer). value a 0) e;
+    }

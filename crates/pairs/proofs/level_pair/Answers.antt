@@ -28,7 +28,7 @@ returns-else-first c =
 
 pub level_table-requires : goal.level_table-requires
 level_table-requires c =
-    let p = c.requires.pair_sweeping in record { lent = c.requires.lent; sweeping = (record { images = p.images; few = p.few; fits = p.first_fits; level_low = p.level_low }, p.first_counted, p.above) }
+    let p = c.requires.pair_sweeping in record { masks = c.requires.masks; sweeping = (record { few = p.few; fits = p.first_fits; level_low = p.level_low }, p.first_counted, p.above) }
 
 pub level_table-requires-then-first : goal.level_table-requires-then-first
 level_table-requires-then-first c =
@@ -37,4 +37,4 @@ level_table-requires-then-first c =
     let e = ap length c.level_table.ensures
     ∙ level_length (removable a.edition) a.maps.rings a.tables.first a.tables.second.own.start a.level a.maps.count
     (least_of_class a.maps.rings a.maps.count) a.tablebase.now in
-    let f = subst (λ (n : ℕ). Fits n a.maps.rings a.tables.second a.tables.first.own.start) (sym e) p.second_fits in record { lent = c.requires.lent; sweeping = (record { images = p.images; few = p.few; fits = f; level_low = p.level_low }, p.second_counted, p.above) }
+    let f = subst (λ (n : ℕ). Fits n a.maps.rings a.tables.second a.tables.first.own.start) (sym e) p.second_fits in record { masks = c.requires.masks; sweeping = (record { few = p.few; fits = f; level_low = p.level_low }, p.second_counted, p.above) }

@@ -25,4 +25,4 @@ pub sweep_blocked-requires-then-first : goal.sweep_blocked-requires-then-first
 sweep_blocked-requires-then-first c =
     let a = c.args in
     let e = ap length c.sweep_blocked.ensures
-    ∙ blocked_lengths a.rings a.tables.first a.tablebase.now (size (8 * a.rings) a.tables.first.mover a.tables.first.opponent) in record { lent = c.requires.lent; lies = subst (λ (n : ℕ). Lies (8 * a.rings) a.tables.second n) (sym e) c.requires.lies.1 }
+    ∙ blocked_lengths a.rings a.tables.first a.tablebase.now (size (8 * a.rings) a.tables.first.mover a.tables.first.opponent) in record { masks = c.requires.masks; lies = subst (λ (n : ℕ). Lies (8 * a.rings) a.tables.second n) (sym e) c.requires.lies.1 }

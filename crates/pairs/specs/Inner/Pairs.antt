@@ -6,7 +6,6 @@ use Rattle.game.specs.Game.{void_entry}
 use Rattle.parts.specs.declared.Part.{Part}
 use Rattle.parts.specs.Parts.{filled_part}
 use Rattle.classing.specs.declared.Maps.{Maps}
-use Rattle.imaging.specs.Inner.Images.{RingImages}
 use Rattle.tables.specs.declared.Table.{Table}
 use Rattle.deciding.specs.Inner.Fits.{Fits}
 use Rattle.deciding.specs.Inner.Open.{open_decided, Found}
@@ -52,8 +51,7 @@ PairFound rule rings a b tablebase false =
     × Found (open_decided rule rings b a.own.start tablebase) (size (8 * rings) b.mover b.opponent) false
 
 -- a level over the tables of a pair
-pub record PairSweeping (lent : List ℕ) (length : ℕ) (maps : Maps) (tables : Tables) (level : ℕ) : Type 0 where
-  pub images : RingImages lent
+pub record PairSweeping (length : ℕ) (maps : Maps) (tables : Tables) (level : ℕ) : Type 0 where
   pub few : maps.count ≤ 16
   pub first_fits : Fits length maps.rings tables.first tables.second.own.start
   pub first_counted : CountsFit tables.first

@@ -4,7 +4,6 @@ use mathlib.Core.Bool.{Bool, true, false}
 use lib.ListN.{get_or, set}
 use borrow.Author.Tests.{eq-eqb, ne_eqb}
 use Rattle.game.specs.Game.{draw_entry, void_entry}
-use borrow.Author.Rules.{rules}
 use Rattle.parts.proofs.mark.Goals as goal
 
 pub returns-then-part-r : goal.returns-then-part-r

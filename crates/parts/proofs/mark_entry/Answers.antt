@@ -9,7 +9,6 @@ use lib.ListN.{length, get_or, set, drop}
 use lib.Seq.{get_or-take, get_or-drop}
 use borrow.Rule.Slice.PartMut.{mid_of, put_mid, mid_len, put_same, set_mid_at}
 use Rattle.game.specs.Game.{draw_entry, void_entry}
-use borrow.Author.Rules.{rules}
 use Rattle.parts.proofs.mark_entry.Goals as goal
 
 -- a mark in the part is a mark in the whole

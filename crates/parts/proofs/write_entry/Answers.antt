@@ -3,7 +3,6 @@ use mathlib.Core.Path.{ap, ◌∙◌}
 use Prim.Native.Nat.{◌-◌}
 use native.Mathlib.Omega.{arith}
 use borrow.Rule.Slice.PartMut.{put_mid, mid_len, set_mid_at}
-use borrow.Author.Rules.{rules}
 use Rattle.parts.proofs.write_entry.Goals as goal
 
 pub returns : goal.returns

@@ -22,7 +22,7 @@ returns-then-stones-opponent c =
 
 pub entry_in-requires : goal.entry_in-requires
 entry_in-requires c =
-    record { binomial_table = c.requires.binomials; placed = c.requires.placed; position_in_bounds = same_within c.requires.reads _ (sym (stones (goal.at.entry_in-requires c).After-count-stones) ∙ c.if-stones-opponent.true) }
+    record { placed = c.requires.placed; position_in_bounds = same_within c.requires.reads _ (sym (stones (goal.at.entry_in-requires c).After-count-stones) ∙ c.if-stones-opponent.true) }
 
 pub returns-then-stones-lt3 : goal.returns-then-stones-lt3
 returns-then-stones-lt3 c =
@@ -32,7 +32,7 @@ returns-then-stones-lt3 c =
 
 pub entry_in-requires-2 : goal.entry_in-requires-2
 entry_in-requires-2 c =
-    record { binomial_table = c.requires.binomials; placed = c.requires.placed; position_in_bounds = fewer_within c.requires.reads _ c.requires.left (λ q. c.if-stones-opponent.false (stones (goal.at.entry_in-requires-2 c).After-count-stones ∙ q)) (omega (arith, stones (goal.at.entry_in-requires-2 c).After-count-stones, c.if-stones-lt3.false)) }
+    record { placed = c.requires.placed; position_in_bounds = fewer_within c.requires.reads _ c.requires.left (λ q. c.if-stones-opponent.false (stones (goal.at.entry_in-requires-2 c).After-count-stones ∙ q)) (omega (arith, stones (goal.at.entry_in-requires-2 c).After-count-stones, c.if-stones-lt3.false)) }
 
 pub returns : goal.returns
 returns c =

@@ -31,7 +31,6 @@ entry_after-requires c =
     let a = c.args in
     let l = after_leads a.rings a.position c.requires.probing.placed a.number c.requires.makeable in
     record {
-      binomials = c.requires.probing.binomials;
       placed = subst (Placed a.rings) (sym c.after_ply-after.ensures) (after_placed a.rings a.position c.requires.probing.placed a.number c.requires.makeable);
       left = rw (reached (goal.at.entry_after-requires c).After-after_ply-after, stones (goal.at.entry_after-requires c).After-count-opponent) (left_of l);
       reads = rw (reached (goal.at.entry_after-requires c).After-after_ply-after, stones (goal.at.entry_after-requires c).After-count-opponent, l.opponent) c.requires.probing.reads;

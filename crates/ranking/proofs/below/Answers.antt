@@ -2,7 +2,6 @@
 use mathlib.Core.Path.{◌≡◌, sym, ap, ap₂, ◌∙◌}
 use Prim.Native.Nat.{ℕ, ◌+◌}
 use native.Mathlib.Omega.{arith}
-use borrow.Author.Rules.{rules}
 use Rattle.sizes.specs.Size.{size_with_one}
 use Rattle.ranking.specs.Unrank.{below}
 use Rattle.ranking.proofs.Steps.{below_two, below_small, with_one}

@@ -3,7 +3,6 @@ use mathlib.Core.Path.{ap, ap₂, ◌∙◌}
 use Prim.Native.Nat.{ℕ, ◌+◌, ◌-◌, ◌*◌, ◌^◌, ◌≤◌}
 use native.Mathlib.Nat.{mul-le-mul}
 use native.Mathlib.Omega.{arith}
-use borrow.Author.Rules.{rules}
 use Rattle.sizes.specs.Inner.Binomial.{binomial}
 use Rattle.sizes.proofs.Binomials.{binomial_small}
 use Rattle.ranking.proofs.StoneRanks.{below_stone, cond_le}
@@ -18,7 +17,7 @@ column-low c =
 
 pub binomial-requires : goal.binomial-requires
 binomial-requires c =
-    record { binomial_table = c.requires.binomial_table; n_bound = omega (arith, column-low (goal.at.binomial-requires c).After-choose) }
+    omega (arith, column-low (goal.at.binomial-requires c).After-choose)
 
 row_low : (c : After-choose-2) → c.choose-2.result ≤ 24
 row_low c =
@@ -27,7 +26,7 @@ row_low c =
 
 pub binomial-requires-2 : goal.binomial-requires-2
 binomial-requires-2 c =
-    record { binomial_table = c.requires.binomial_table; n_bound = omega (arith, row_low (goal.at.binomial-requires-2 c).After-choose-2) }
+    omega (arith, row_low (goal.at.binomial-requires-2 c).After-choose-2)
 
 pub overflow_mul-result : goal.overflow_mul-result
 overflow_mul-result c =

@@ -1,11 +1,10 @@
 -- `ranking::rank` meets its contract. The invariant: the counts and the rank of the points passed, and the stones that are left. Assumes nothing.
 use Prim.Native.Nat.{ℕ, suc, ◌+◌, ◌-◌}
 use native.Mathlib.Omega.{arith}
-use borrow.Author.Rules.{rules}
 use Rattle.board.specs.Board.{digit}
 use Rattle.board.proofs.Sides.{digit_lt}
 use Rattle.ranking.proofs.Steps.{below_small}
-use Rattle.ranking.proofs.OnSets.{Passing, passing_none, Here, passing_here, passing_more, passing_all}
+use Rattle.ranking.proofs.OnSets.{passing_none, Here, passing_here, passing_more, passing_all}
 use Rattle.ranking.proofs.rank.Goals as goal
 use Rattle.ranking.proofs.rank.Goals.{After-take_lowest-p}
 
@@ -35,7 +34,7 @@ overflow_add-o c =
 
 pub contribution-r-requires : goal.contribution-r-requires
 contribution-r-requires c =
-    let h = here (goal.at.contribution-r-requires c).After-take_lowest-p in record { binomial_table = c.requires.binomials; p_bound = omega (arith, h.low, h.few, c.requires.few, c.loop-left.invariant.some, digit_lt c.has-theirs.result) }
+    let h = here (goal.at.contribution-r-requires c).After-take_lowest-p in omega (arith, h.low, h.few, c.requires.few, c.loop-left.invariant.some, digit_lt c.has-theirs.result)
 
 pub overflow_add-r : goal.overflow_add-r
 overflow_add-r c =

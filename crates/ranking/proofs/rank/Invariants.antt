@@ -1,11 +1,5 @@
 -- `ranking::rank` meets its contract. The invariant: the counts and the rank of the points passed, and the stones that are left. Assumes nothing.
-use Prim.Native.Nat.{ℕ, suc, ◌+◌, ◌-◌}
-use native.Mathlib.Omega.{arith}
-use borrow.Author.Rules.{rules}
-use Rattle.board.specs.Board.{digit}
-use Rattle.board.proofs.Sides.{digit_lt}
-use Rattle.ranking.proofs.Steps.{below_small}
-use Rattle.ranking.proofs.OnSets.{Passing, passing_none, Here, passing_here, passing_more, passing_all}
+use Rattle.ranking.proofs.OnSets.{Passing}
 use Rattle.ranking.proofs.rank.Given as goal
 
 abbrev pub invariant-loop-left : goal.invariant-loop-left

@@ -1,7 +1,6 @@
 -- `ranking::top_value` meets its contract: each way out is a case of the definition. Assumes nothing.
 use mathlib.Core.Path.{sym}
 use native.Mathlib.Omega.{arith}
-use borrow.Author.Rules.{rules}
 use Rattle.ranking.proofs.Inverse.{top_zero, top_one, top_two}
 use Rattle.ranking.proofs.top_value.Goals as goal
 

@@ -3,41 +3,40 @@ use mathlib.Core.Path.{◌≡◌, sym, ap, subst}
 use mathlib.Core.List.{List}
 use Prim.Native.Nat.{ℕ, ◌+◌, ◌-◌, ◌^◌, ◌≤◌, ◌<◌}
 use native.Mathlib.Omega.{arith}
-use borrow.Author.Rules.{rules}
 use lib.Dec.{eqb}
 use lib.ListN.{length}
 use Rattle.board.proofs.Sides.{digit_lt, set_small, position_sides}
 use Rattle.ranking.specs.Unrank.{below, unrank as Unrank·unrank}
 use Rattle.sizes.proofs.Multinomials.{stones_few}
 use Rattle.ranking.proofs.Inverse.{Rest}
-use Rattle.ranking.proofs.Steps.{Unranking, unranking_none, unranking_more, rest_at, length_unrank}
+use Rattle.ranking.proofs.Steps.{unranking_none, unranking_more, rest_at, length_unrank}
 use Rattle.ranking.proofs.unrank.Goals as goal
 use Rattle.ranking.proofs.unrank.Goals.{After-below-r, At-loop-i}
 
 pub loop-i-init : goal.loop-i-init
 loop-i-init c =
-    let a = c.args in (unranking_none a.points a.mover a.opponent a.rank c.requires.points_bound.1, omega arith)
+    let a = c.args in unranking_none a.points a.mover a.opponent a.rank c.requires.1
 
 -- few stones are left, and the sets are small
 few : (c : At-loop-i) → c.loop-i.m + c.loop-i.o ≤ c.loop-i.i
-few c = stones_few c.loop-i.i c.loop-i.m c.loop-i.o c.loop-i.r c.loop-i.invariant.0.rank_low
+few c = stones_few c.loop-i.i c.loop-i.m c.loop-i.o c.loop-i.r c.loop-i.invariant.rank_low
 
 small : (c : At-loop-i) → (c.loop-i.first < 2 ^ 24) × (c.loop-i.second < 2 ^ 24)
 small c =
     let a = c.args in
     let b : List ℕ = Unrank·unrank a.points a.mover a.opponent a.rank in
-    let l : length b ≤ 24 = omega (arith, length_unrank a.points a.mover a.opponent a.rank, c.requires.points_bound.0) in (
-      subst (λ (s : ℕ). s < 2 ^ 24) (sym c.loop-i.invariant.0.mover) (set_small 1 c.loop-i.i b l),
-      subst (λ (s : ℕ). s < 2 ^ 24) (sym c.loop-i.invariant.0.opponent) (set_small 2 c.loop-i.i b l),
+    let l : length b ≤ 24 = omega (arith, length_unrank a.points a.mover a.opponent a.rank, c.requires.0) in (
+      subst (λ (s : ℕ). s < 2 ^ 24) (sym c.loop-i.invariant.mover) (set_small 1 c.loop-i.i b l),
+      subst (λ (s : ℕ). s < 2 ^ 24) (sym c.loop-i.invariant.opponent) (set_small 2 c.loop-i.i b l),
     )
 
 pub top_value-x-requires : goal.top_value-x-requires
 top_value-x-requires c =
-    record { binomial_table = c.requires.binomial_table; n_bound = omega (arith, few (goal.at.top_value-x-requires c).At-loop-i) }
+    omega (arith, few (goal.at.top_value-x-requires c).At-loop-i)
 
 pub below-r-requires : goal.below-r-requires
 below-r-requires c =
-    record { binomial_table = c.requires.binomial_table; n_bound = omega (arith, few (goal.at.below-r-requires c).At-loop-i) }
+    omega (arith, few (goal.at.below-r-requires c).At-loop-i)
 
 -- the step's laws, at the value that the code has
 stepped : (c : After-below-r)
@@ -45,7 +44,7 @@ stepped : (c : After-below-r)
     c.loop-i.r c.top_value-x.result
 stepped c =
     rest_at c.loop-i.i c.loop-i.m c.loop-i.o c.loop-i.r c.top_value-x.result c.loop-i-test.true
-    c.loop-i.invariant.0.rank_low c.top_value-x.ensures
+    c.loop-i.invariant.rank_low c.top_value-x.ensures
 
 pub overflow_sub-r : goal.overflow_sub-r
 overflow_sub-r c =
@@ -76,9 +75,9 @@ loop-i-preserved c =
     let v : ℕ = c.top_value-x.result in
     let e : c.loop-i.r - c.below-r.result ≡ c.loop-i.r - below v (c.loop-i.i - 1) c.loop-i.m c.loop-i.o = ap (λ (k : ℕ). c.loop-i.r - k)
     c.below-r.ensures in
-    (rw e (unranking_more v c.loop-i.invariant.0 c.loop-i-test.true c.top_value-x.ensures), omega arith)
+    rw e (unranking_more v c.loop-i.invariant c.loop-i-test.true c.top_value-x.ensures)
 
 pub returns : goal.returns
 returns c =
     let e : c.loop-i.i ≡ 0 = omega arith in
-    rw (c.loop-i.invariant.0.mover, c.loop-i.invariant.0.opponent, e) (sym (position_sides _))
+    rw (c.loop-i.invariant.mover, c.loop-i.invariant.opponent, e) (sym (position_sides _))

@@ -4,7 +4,6 @@ use mathlib.Core.Bool.{Bool, ◌&&◌}
 use Prim.Native.Nat.{ℕ}
 use lib.Dec.{eqb}
 use borrow.Author.Tests.{eq-eqb, ne_eqb}
-use borrow.Author.Rules.{rules}
 use Rattle.sets.specs.Sets.{has, members}
 use Rattle.rules.specs.Unreachable.{has_mill}
 use Rattle.reachability.proofs.nine_against_mill.Goals as goal

@@ -2,7 +2,6 @@
 -- nothing.
 use mathlib.Core.Path.{sym, ◌∙◌}
 use native.Mathlib.Omega.{arith}
-use borrow.Author.Rules.{rules}
 use Rattle.refusals.proofs.ReachableConditions.{other_edition, few_reached}
 use Rattle.reachability.proofs.OnPositions.{none_nine, first_side, second_side}
 use Rattle.reachability.proofs.unreachable.Goals as goal

@@ -1,11 +1,9 @@
 -- `representing::least_image` meets its contract. The invariant: the least image so far, and its rank. Assumes nothing.
 use mathlib.Core.Path.{◌≡◌, sym, ap, ◌∙◌, subst}
 use mathlib.Core.List.{List}
-use mathlib.Core.Logic.{⊎_elim}
-use Prim.Native.Nat.{ℕ, ◌≤◌, ◌-◌}
+use Prim.Native.Nat.{ℕ}
 use native.Mathlib.Numerals.{add-one}
 use native.Mathlib.Omega.{arith}
-use borrow.Author.Rules.{rules}
 use Rattle.board.specs.Board.{Values}
 use Rattle.ranking.specs.Rank.{rank}
 use Rattle.symmetry.specs.Symmetries.{symmetries, image}
@@ -18,11 +16,11 @@ use Rattle.representing.proofs.least_image.Goals.{then-rank-least, else-rank-lea
 pub loop-g-init : goal.loop-g-init
 loop-g-init c =
     let a = c.args in
-    (omega arith, sym (least_first a.rings a.board), c.rank_in_use-least.ensures)
+    (sym (least_first a.rings a.board), c.rank_in_use-least.ensures)
 
 pub rank_in_use-rank-requires : goal.rank_in_use-rank-requires
 rank_in_use-rank-requires c =
-    let a = c.args in record { binomial_table = c.requires.binomial_table; rings_bound = (c.requires.rings_bound.0, subst Values (sym c.image-next.ensures) (image_values a.rings c.loop-g.g a.board c.requires.rings_bound.1)) }
+    let a = c.args in (c.requires.0, subst Values (sym c.image-next.ensures) (image_values a.rings c.loop-g.g a.board c.requires.1))
 
 pub loop-g-preserved : goal.loop-g-preserved
 loop-g-preserved c =
@@ -31,18 +29,16 @@ loop-g-preserved c =
     let e : c.rank_in_use-rank.result ≡ rank (in_use a.rings (image a.rings g a.board)) =
     c.rank_in_use-rank.ensures ∙ ap (λ (w : List ℕ). rank (in_use a.rings w)) c.image-next.ensures in
     let l : c.loop-g.least ≡ rank (in_use a.rings (least_image a.rings a.board g)) =
-    c.loop-g.invariant.2 ∙ ap (λ (w : List ℕ). rank (in_use a.rings w)) c.loop-g.invariant.1 in
+    c.loop-g.invariant.1 ∙ ap (λ (w : List ℕ). rank (in_use a.rings w)) c.loop-g.invariant.0 in
     let next = ap (least_image a.rings a.board) (sym (add-one g)) in
     elim c.if-rank-least.branch [
       | then-rank-least w ↦ (
-        omega arith,
         w.best-is ∙ c.image-next.ensures ∙ sym (least_lower a.rings a.board g (omega arith)) ∙ next,
         w.least-is ∙ c.rank_in_use-rank.ensures ∙ ap (λ (w : List ℕ). rank (in_use a.rings w)) (sym w.best-is),
       )
       | else-rank-least w ↦ (
-        omega arith,
-        w.best-is ∙ c.loop-g.invariant.1 ∙ sym (least_kept a.rings a.board g (omega arith)) ∙ next,
-        w.least-is ∙ c.loop-g.invariant.2 ∙ ap (λ (w : List ℕ). rank (in_use a.rings w)) (sym w.best-is),
+        w.best-is ∙ c.loop-g.invariant.0 ∙ sym (least_kept a.rings a.board g (omega arith)) ∙ next,
+        w.least-is ∙ c.loop-g.invariant.1 ∙ ap (λ (w : List ℕ). rank (in_use a.rings w)) (sym w.best-is),
       )
     ]
 
@@ -50,4 +46,4 @@ pub returns : goal.returns
 returns c =
     let a = c.args in
     let e : c.loop-g.g ≡ symmetries = omega arith in
-    c.loop-g.invariant.1 ∙ ap (least_image a.rings a.board) e
+    c.loop-g.invariant.0 ∙ ap (least_image a.rings a.board) e

@@ -30,8 +30,7 @@ pub rank-requires : goal.rank-requires
 rank-requires c =
     let b : List ℕ = take (8 * c.args.rings) c.args.board in
     record {
-      binomials = c.requires.binomial_table;
-      few = omega (arith, c.requires.rings_bound.0);
+      few = omega (arith, c.requires.0);
       on = subst (λ (n : ℕ). OnBoard n c.position_of-position.result) (in_use (goal.at.rank-requires c).Start)
           (subst (λ (p : Position). OnBoard (length b) p) (sym c.position_of-position.ensures) (position_on b));
     }
@@ -39,7 +38,7 @@ rank-requires c =
 pub returns : goal.returns
 returns c =
     let b : List ℕ = take (8 * c.args.rings) c.args.board in
-    let v = values_take (8 * c.args.rings) c.args.board c.requires.rings_bound.1 in
+    let v = values_take (8 * c.args.rings) c.args.board c.requires.1 in
     c.rank.ensures
     ∙ ap (λ (p : Position). Rank·rank (board_of (8 * c.args.rings) p)) c.position_of-position.ensures
     ∙ ap Rank·rank (subst (λ (n : ℕ). board_of n (position_of b) ≡ b) (in_use (goal.at.returns c).Start) (board_position b v))

@@ -2,7 +2,6 @@
 use mathlib.Core.Path.{sym, ap, ◌∙◌, subst}
 use mathlib.Core.List.{List}
 use Prim.Native.Nat.{ℕ}
-use borrow.Author.Rules.{rules}
 use Rattle.board.specs.Board.{Values}
 use Rattle.ranking.specs.Rank.{rank}
 use Rattle.symmetry.specs.Symmetries.{symmetries}
@@ -13,15 +12,15 @@ use Rattle.representing.proofs.representative_rank.Goals as goal
 use Rattle.representing.proofs.representative_rank.Goals.{After-whole-points}
 
 all-values : (c : After-whole-points) → Values c.whole-points.result
-all-values c = subst Values (sym c.whole-points.ensures) (whole_values c.args.board.now c.requires.rings_bound.2)
+all-values c = subst Values (sym c.whole-points.ensures) (whole_values c.args.board.now c.requires.2)
 
 pub least_image-least-requires : goal.least_image-least-requires
 least_image-least-requires c =
-    record { binomial_table = c.requires.binomial_table; rings_bound = (c.requires.rings_bound.0, all-values (goal.at.least_image-least-requires c).After-whole-points) }
+    (c.requires.0, all-values (goal.at.least_image-least-requires c).After-whole-points)
 
 pub rank_in_use-requires : goal.rank_in_use-requires
 rank_in_use-requires c =
-    let v = least_values c.args.rings c.whole-points.result symmetries (all-values (goal.at.rank_in_use-requires c).After-whole-points) in record { binomial_table = c.requires.binomial_table; rings_bound = (c.requires.rings_bound.0, subst Values (sym c.least_image-least.ensures) v) }
+    let v = least_values c.args.rings c.whole-points.result symmetries (all-values (goal.at.rank_in_use-requires c).After-whole-points) in (c.requires.0, subst Values (sym c.least_image-least.ensures) v)
 
 pub returns : goal.returns
 unfolding representative

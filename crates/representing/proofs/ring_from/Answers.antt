@@ -1,7 +1,6 @@
 -- `representing::ring_from` meets its contract. Assumes nothing.
 use borrow.Author.Tests.{eq-eqb, ne_eqb}
 use native.Mathlib.Omega.{arith}
-use borrow.Author.Rules.{rules}
 use Rattle.symmetry.specs.Symmetries.{ring_from}
 use Rattle.representing.proofs.ring_from.Goals as goal
 

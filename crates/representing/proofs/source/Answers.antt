@@ -1,7 +1,6 @@
 -- `representing::source` meets its contract. Assumes nothing.
 use borrow.Author.Tests.{lt-ltb, le-ltb}
 use native.Mathlib.Omega.{arith}
-use borrow.Author.Rules.{rules}
 use Rattle.symmetry.specs.Symmetries.{source}
 use Rattle.representing.proofs.source.Goals as goal
 

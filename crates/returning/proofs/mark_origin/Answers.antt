@@ -61,7 +61,6 @@ mark_put-requires c =
     let p = c.requires.returning.placed in
     let g = c.requires.to_value in
     record {
-      binomials = c.requires.returning.binomials;
       placed = before_placed a.rings a.position p a.to a.from c.with-moved.result g.0 g.1 (made (goal.at.mark_put-requires c).After-with-moved);
       vacant = λ q e. others_vacant a.rings a.position p a.to a.from c.with-moved.result g.0 g.1 (made (goal.at.mark_put-requires c).After-with-moved) q
           (sym (ap (λ (x : ℕ). bit x q) (c.without-vacant.ensures ∙ ap (λ (x : ℕ). without x a.from) c.vacant.ensures)) ∙ e);
@@ -81,7 +80,6 @@ mark_position-requires c =
     let p = c.requires.returning.placed in
     let g = c.requires.to_value in
     record {
-      binomials = c.requires.returning.binomials;
       placed = before_placed a.rings a.position p a.to a.from c.with-moved.result g.0 g.1 (made (goal.at.mark_position-requires c).After-with-moved);
       room = room_same c.requires.returning.room (sym (before_mover a.rings a.position p a.to a.from c.with-moved.result g.0 g.1 (made (goal.at.mark_position-requires c).After-with-moved)))
           (omega (

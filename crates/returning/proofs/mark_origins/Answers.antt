@@ -47,7 +47,6 @@ mark_put-requires c =
     let g = c.requires.to_value in
     let m : ℕ = c.without.result in
     record {
-      binomials = c.requires.returning.binomials;
       placed = lifted_placed a.rings a.position p a.to m g.0 c.without.ensures;
       vacant = λ q e. lifted_vacant a.rings a.position p a.to m g.0 c.without.ensures q (g.1 q e);
       room = room_same c.requires.returning.room (lifted_mover a.rings a.position p a.to m g.0 c.without.ensures)

@@ -3,7 +3,6 @@ use mathlib.Core.Path.{sym, ap, ◌∙◌}
 use Prim.Native.Nat.{ℕ}
 use Rattle.sets.specs.Sets.{with}
 use Rattle.sets.proofs.Elements.{from_three}
-use borrow.Author.Rules.{rules}
 use Rattle.sets.proofs.of_three.Goals as goal
 
 pub returns : goal.returns

@@ -1,6 +1,5 @@
 -- `sets::take_lowest` meets its contract. Assumes nothing.
 use Rattle.sets.proofs.Least.{taken}
-use borrow.Author.Rules.{rules}
 use Rattle.sets.proofs.take_lowest.Goals as goal
 
 pub returns : goal.returns

@@ -1,6 +1,5 @@
 -- `sets::without_lowest` meets its contract. Assumes nothing.
 use Rattle.sets.proofs.Least.{lowest_apart}
-use borrow.Author.Rules.{rules}
 use Rattle.sets.proofs.without_lowest.Goals as goal
 
 pub returns : goal.returns

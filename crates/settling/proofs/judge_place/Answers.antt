@@ -28,7 +28,7 @@ overflow_cast-level c = omega (arith, c.requires.sweeping.0.level_low)
 
 pub hits-requires : goal.hits-requires
 hits-requires c =
-    let w = found (goal.at.hits-requires c).Start in record { probing = record { binomials = c.requires.lent.binomials; placed = w.placed; reads = w.reads }; masks = (c.requires.lent.masks, c.requires.sweeping.0.level_low) }
+    let w = found (goal.at.hits-requires c).Start in record { probing = record { placed = w.placed; reads = w.reads }; masks = (c.requires.masks, c.requires.sweeping.0.level_low) }
 
 pub returns-then-hits : goal.returns-then-hits
 returns-then-hits c =
@@ -49,9 +49,8 @@ write_images-requires c =
     let f = c.requires.sweeping.0 in
     let m = ap (count 1) w.board_is
     ∙ (rank_unrank (8 * a.maps.rings) a.sweep.table.mover a.sweep.table.opponent a.at.rank c.requires.sweeping.1.low).mover in record {
-      imaging = record { images = f.images; small = f.fits.small; few = f.few; on = w.placed.on };
+      imaging = record { small = f.fits.small; few = f.few; on = w.placed.on };
       in_table = record {
-        binomials = c.requires.lent.binomials;
         within = f.fits.room;
         whole = f.fits.end_is ∙ ap₂ (λ (x y : ℕ). a.sweep.table.own.start + size (8 * a.maps.rings) x y) (sym m) (sym w.opponent_is);
       };

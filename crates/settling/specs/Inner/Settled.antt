@@ -8,7 +8,6 @@ use Rattle.rules.specs.Ply.{Rule, successors}
 use Rattle.game.specs.Game.{draw_entry, void_entry}
 use Rattle.game.specs.Judgement.{hit}
 use Rattle.classing.specs.declared.Maps.{Maps}
-use Rattle.imaging.specs.Inner.Images.{RingImages}
 use Rattle.classing.specs.Inner.Classes.{images_written}
 use Rattle.tables.specs.declared.Table.{Table}
 use Rattle.seeking.specs.declared.Cursor.{Cursor}
@@ -17,8 +16,7 @@ use Rattle.deciding.specs.Inner.Open.{board_at, judged}
 use Rattle.settling.specs.declared.Sweep.{Sweep}
 
 -- a level over a table by classes: the lent images, how many maps make a class, and that the tables fit
-pub record Sweeping (lent : List ℕ) (length : ℕ) (maps : Maps) (sweep : Sweep) : Type 0 where
-  pub images : RingImages lent
+pub record Sweeping (length : ℕ) (maps : Maps) (sweep : Sweep) : Type 0 where
   pub few : maps.count ≤ 16
   pub fits : Fits length maps.rings sweep.table sweep.same
   pub level_low : sweep.level < void_entry

@@ -1,8 +1,7 @@
--- `sizes::size` meets its contract: a size is the product of two binomials. Assumes nothing.
+-- `Binomials::size` meets its contract: a size is the product of two binomials. Assumes nothing.
 use mathlib.Core.Path.{◌≡◌, sym, ap₂, ◌∙◌}
 use Prim.Native.Nat.{◌*◌}
 use native.Mathlib.Omega.{arith}
-use borrow.Author.Rules.{rules}
 use Rattle.sizes.specs.Size.{size}
 use Rattle.sizes.proofs.Multinomials.{size_ways, size_over, size_small}
 use Rattle.sizes.proofs.size.Goals as goal
@@ -20,7 +19,7 @@ product c =
 
 pub overflow_mul-result : goal.overflow_mul-result
 overflow_mul-result c =
-    omega (arith, product (goal.at.overflow_mul-result c).After-binomial-2, size_small c.args.points c.args.m c.args.o c.requires.points_bound.0)
+    omega (arith, product (goal.at.overflow_mul-result c).After-binomial-2, size_small c.args.points c.args.m c.args.o c.requires.0)
 
 pub returns : goal.returns
 returns c = product (goal.at.returns c).After-binomial-2

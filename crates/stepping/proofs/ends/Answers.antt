@@ -1,7 +1,6 @@
 -- `stepping::ends` meets its contract. Assumes nothing.
 use lib.Bits.{and_le_l}
 use Rattle.stepping.proofs.RunEnds.{ends_are}
-use borrow.Author.Rules.{rules}
 use Rattle.stepping.proofs.ends.Goals as goal
 
 pub overflow_sub-result : goal.overflow_sub-result

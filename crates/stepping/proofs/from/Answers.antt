@@ -2,7 +2,6 @@
 use native.Mathlib.Nat.{mod-eq_of_lt}
 use native.Mathlib.Omega.{arith}
 use lib.Pow.{split}
-use borrow.Author.Rules.{rules}
 use Rattle.stepping.proofs.from.Goals as goal
 
 pub returns : goal.returns

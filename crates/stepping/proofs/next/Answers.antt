@@ -14,7 +14,6 @@ use Rattle.ranking.proofs.Digits.{stones}
 use Rattle.stepping.proofs.Descents.{Descent, descent, drops_any}
 use Rattle.stepping.proofs.Runs.{Runs, runs, stones_any, with_any}
 use Rattle.stepping.proofs.NextPosition.{Stepped, stepped, sides}
-use borrow.Author.Rules.{rules}
 use Rattle.stepping.proofs.next.Goals as goal
 use Rattle.stepping.proofs.next.Goals.{After-has-was, After-lowest, After-lowest-p, Start}
 

@@ -4,7 +4,6 @@ use Prim.Native.Nat.{ℕ, ◌+◌, ◌-◌, ◌*◌, ◌^◌}
 use native.Mathlib.Omega.{arith}
 use lib.Pow.{pow-add, pow_mono, pow_pos}
 use Rattle.sets.proofs.Laws.{shl_one}
-use borrow.Author.Rules.{rules}
 use Rattle.stepping.proofs.run.Goals as goal
 
 pub overflow_sub-result : goal.overflow_sub-result

@@ -4,7 +4,6 @@ use Prim.Native.Nat.{ℕ, ◌+◌, ◌*◌, ◌%◌, ◌^◌, ◌<◌}
 use native.Mathlib.Nat.{lt_of_lt_of_le}
 use native.Mathlib.Omega.{arith}
 use lib.Pow.{pow_mono, ones_lt, shl_lt, shl_exact, split}
-use borrow.Author.Rules.{rules}
 use Rattle.stepping.proofs.side.Goals as goal
 use Rattle.stepping.proofs.side.Goals.{After-from}
 

@@ -43,7 +43,6 @@ loop-r-init c =
 pub seek-at-requires : goal.seek-at-requires
 seek-at-requires c =
     record {
-      binomial_table = c.requires.lent.binomials;
       rings_bound = (c.requires.sweeping.fits.small, omega (arith, c.loop-r-test.true, c.loop-r.invariant.0));
       stands = λ h. c.loop-r.invariant.5 (omega
           (arith, c.loop-r-test.true));
@@ -55,10 +54,9 @@ judge_place-requires c =
     let f = c.requires.sweeping in
     let e = c.seek-at.ensures in
     let l = c.loop-r-test.true in record {
-      lent = c.requires.lent;
+      masks = c.requires.masks;
       sweeping = (
         record {
-          images = f.images;
           few = f.few;
           fits = subst (λ (n : ℕ). Fits n a.maps.rings a.sweep.table a.sweep.same) (sym c.loop-r.invariant.2) f.fits;
           level_low = f.level_low;

@@ -44,9 +44,8 @@ mark_table-requires c =
     let a = c.args in
     let p = c.requires.sweeping.0 in
     let k = c.requires.sweeping.1 in record {
-      lent = c.requires.lent;
+      masks = c.requires.masks;
       preceding = record {
-        images = p.images;
         few = p.few;
         room = room_of a.maps.rings (length a.tablebase.now) a.sweep.table (same_source a.sweep.table a.sweep.same) false
             (same_leads a.sweep.table a.sweep.same) record { whole = p.fits.end_is; within = p.fits.room };
@@ -63,9 +62,8 @@ mark_table-requires-2 c =
     let p = c.requires.sweeping.0 in
     let n = c.requires.sweeping.1 in
     let f = fits-once (goal.at.mark_table-requires-2 c).After-mark_table in record {
-      lent = c.requires.lent;
+      masks = c.requires.masks;
       preceding = record {
-        images = p.images;
         few = p.few;
         room = room_of a.maps.rings (length c.mark_table.new.tablebase) a.sweep.table (lower_source a.sweep.table) true
             (lower_leads a.sweep.table n.opponent_least) record { whole = f.end_is; within = f.room };
@@ -80,9 +78,8 @@ pub judge_marked-requires : goal.judge_marked-requires
 judge_marked-requires c =
     let a = c.args in
     let p = c.requires.sweeping.0 in record {
-      lent = c.requires.lent;
+      masks = c.requires.masks;
       sweeping = record {
-        images = p.images;
         few = p.few;
         fits = subst (λ (n : ℕ). Fits n a.maps.rings a.sweep.table a.sweep.same) (sym (ap length c.mark_table-2.ensures
             ∙ from_length a.maps.rings a.sweep.table.own.start (lower_source a.sweep.table) true (a.sweep.level - 1)

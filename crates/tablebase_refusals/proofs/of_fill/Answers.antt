@@ -1,36 +1,31 @@
--- `tablebase_refusals::of_fill` meets its contract: the refusals of rings and edition, then those of K, the tablebase and the limit. Assumes nothing.
-use mathlib.Core.Path.{◌≡◌, refl, sym, ◌∙◌}
-use mathlib.Core.Bool.{false}
-use mathlib.Core.List.{List}
-use borrow.Author.Rules.{rules}
-use Rattle.refusals.specs.Refusals.{Picked, refusal_table, picked_rows, refusal}
-use Rattle.refusals.specs.Conditions.{edition_picks, limit_picks}
+-- `tablebase_refusals::of_fill` meets its contract: the refusals of a check, then of the limit. Assumes nothing.
+use mathlib.Core.Path.{refl, sym, ◌∙◌}
+use mathlib.Core.List.{List, [], ◌∷◌}
+use Rattle.refusals.specs.Refusals.{Picked, refusal_table, picked_rows}
+use Rattle.refusals.specs.Conditions.{check_picks, limit_wrong}
 use Rattle.refusals.proofs.FirstRefusal.{first_kept, first_after}
-use Rattle.refusals.proofs.Conditions.{edition_rings}
+use Rattle.answers.specs.Answers.{refusal_number}
+use Rattle.answers.proofs.Answering.{refusal_some, handed_on}
 use Rattle.tablebase_refusals.proofs.of_fill.Goals as goal
-use Rattle.tablebase_refusals.proofs.of_fill.Goals.{Else-refusal-ne0, Start}
+use Rattle.tablebase_refusals.proofs.of_fill.Goals.{Start}
 
--- the rows of rings and edition, and those after them
+-- the rows of a check, and the one after them
 rows : (s : Start) → List Picked
-rows s = picked_rows refusal_table (edition_picks s.args.rings s.args.edition)
+rows s = picked_rows refusal_table (check_picks s.args.rings s.args.edition s.args.k s.args.length)
 
-later : (s : Start) → List Picked
-later s = picked_rows refusal_table (limit_picks s.args.rings s.args.k false s.args.limit s.args.length)
+last : (s : Start) → List Picked
+last s = record { holds = limit_wrong s.args.limit; number = 10 } ∷ []
 
-pub returns-then-refusal-ne0 : goal.returns-then-refusal-ne0
-unfolding rows later
-returns-then-refusal-ne0 c =
-    first_kept (rows (goal.at.returns-then-refusal-ne0 c).Start) (later (goal.at.returns-then-refusal-ne0 c).Start) c.of_edition-refusal.result c.if-refusal-ne0.true c.of_edition-refusal.ensures
-
--- past rings and edition
-none : (c : Else-refusal-ne0) → 0 ≡ refusal (edition_picks c.args.rings c.args.edition)
-none c = sym c.if-refusal-ne0.false ∙ c.of_edition-refusal.ensures
-
-pub of_limit-requires : goal.of_limit-requires
-of_limit-requires c =
-    record { binomial_table = c.requires; rings_bound = edition_rings c.args.rings c.args.edition (none (goal.at.of_limit-requires c).Else-refusal-ne0) }
+pub returns-in_err-of_check : goal.returns-in_err-of_check
+unfolding rows last
+returns-in_err-of_check c =
+    let s = (goal.at.returns-in_err-of_check c).Start in
+    let r = c.in_err-of_check.field-0.0 in
+    rw (handed_on c.from_residual.result r c.from_residual.ensures.1)
+    (first_kept (rows s) (last s) (refusal_number r) (refusal_some r) c.in_err-of_check.ensures)
 
 pub returns : goal.returns
-unfolding rows later
+unfolding rows last
 returns c =
-    c.of_limit.ensures ∙ sym (first_after (rows (goal.at.returns c).Start) (later (goal.at.returns c).Start) refl (none (goal.at.returns c).Else-refusal-ne0))
+    let s = (goal.at.returns c).Start in
+    c.of_limit.ensures ∙ sym (first_after (rows s) (last s) refl c.in_ok-of_check.ensures)

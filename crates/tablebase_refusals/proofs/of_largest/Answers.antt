@@ -3,7 +3,6 @@ use mathlib.Core.Path.{◌≡◌, sym, ◌∙◌}
 use mathlib.Core.Bool.{false}
 use mathlib.Core.List.{List}
 use native.Mathlib.Omega.{arith}
-use borrow.Author.Rules.{rules}
 use Rattle.refusals.specs.Refusals.{Picked, refusal_table, picked_rows}
 use Rattle.refusals.specs.Conditions.{largest_wrong, largest_picks}
 use Rattle.refusals.proofs.FirstRefusal.{meets, passes}
@@ -25,7 +24,7 @@ returns-then-largest_wrong c =
 
 pub tablebase_wrong-requires : goal.tablebase_wrong-requires
 tablebase_wrong-requires c =
-    let l = largest_right c.args.k c.args.above (largest-passed (goal.at.tablebase_wrong-requires c).Else-largest_wrong) in record { binomial_table = c.requires.binomial_table; rings_bound = omega (arith, c.requires.rings_bound, l) }
+    let l = largest_right c.args.k c.args.above (largest-passed (goal.at.tablebase_wrong-requires c).Else-largest_wrong) in omega (arith, c.requires, l)
 
 pub returns-then-tablebase_wrong : goal.returns-then-tablebase_wrong
 unfolding rows

@@ -1,6 +1,5 @@
 -- `tablebase_refusals::stones_above` meets its contract: the members of both sides are counted. Assumes nothing.
 use mathlib.Core.Path.{ap₂, ◌∙◌}
-use borrow.Author.Rules.{rules}
 use Rattle.refusals.specs.Conditions.{count_above}
 use Rattle.tablebase_refusals.proofs.stones_above.Goals as goal
 

@@ -21,11 +21,11 @@ opponent_is c =
 
 pub table_of-table-requires : goal.table_of-table-requires
 table_of-table-requires c =
-    record { binomial_table = c.requires.binomial_table; points_bound = omega (arith, c.requires.placed.small, c.requires.k_bound, mover_is (goal.at.table_of-table-requires c).After-count-o, opponent_is (goal.at.table_of-table-requires c).After-count-o) }
+    omega (arith, c.requires.placed.small, c.requires.k_bound, mover_is (goal.at.table_of-table-requires c).After-count-o, opponent_is (goal.at.table_of-table-requires c).After-count-o)
 
 pub start-requires : goal.start-requires
 start-requires c =
-    record { binomial_table = c.requires.binomial_table; points_bound = omega (arith, c.requires.placed.small, c.requires.k_bound, mover_is (goal.at.start-requires c).After-count-o, opponent_is (goal.at.start-requires c).After-count-o) }
+    omega (arith, c.requires.placed.small, c.requires.k_bound, mover_is (goal.at.start-requires c).After-count-o, opponent_is (goal.at.start-requires c).After-count-o)
 
 pub returns : goal.returns
 returns c =

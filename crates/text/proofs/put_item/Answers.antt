@@ -15,7 +15,7 @@ bounds-out-at-in_default c = simp length-set (omega arith)
 pub returns-in_default : goal.returns-in_default
 returns-in_default c =
     let a = c.args in
-    let d = item_absent a.field a.after c.in_default.not-Number in
+    let d = item_absent a.field a.after c.in_default.not-Some in
     let f : suc a.at ≡ a.at + 1 = omega arith in
     rw d (record { place = omega arith; bound = omega arith; buffer = ap (λ (k : ℕ). set (set a.out.now a.at 45) k a.after) (sym f) })
 
@@ -23,8 +23,8 @@ pub returns : goal.returns
 returns c =
     let a = c.args in
     let e = c.put_decimal-end.ensures in
-    let n = c.in-Number.n in
-    let d = item_number a.field n a.after c.in-Number.is in
+    let n = c.in-Some.n in
+    let d = item_number a.field n a.after c.in-Some.is in
     let w = part_written (decimal n) (a.after ∷ []) (writing_none a.out.now a.at (decimal n ++ (a.after ∷ []))) e.place e.buffer in
     let v = last_written (a.after ∷ []) w refl refl in
     rw d (record { place = v.0; bound = omega (arith, e.bound); buffer = v.1 })
