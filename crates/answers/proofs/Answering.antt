@@ -7,7 +7,7 @@ use Rattle.std.specs.Prelude.{Result, Ok, Err, IsErrAnd}
 use Rattle.std.specs.Result.{ResultUnwrapsOrElse}
 use Rattle.std.proofs.lemmas.Result.{err_from_is_err_and}
 use Rattle.answers.specs.declared.Refusal.{Refusal}
-use Rattle.answers.specs.Answers.{accepted, refused, number, value, answer, target, refusal_number, met, answered}
+use Rattle.answers.specs.Answers.{accepted, refused, number, value, answer, target, refusal_number, met, MetBy, value_by, answered}
 
 -- no refusal has the number 0
 pub refusal_some : (e : Refusal) → refusal_number e ≡ 0 → ⊥
@@ -56,6 +56,23 @@ met_number values (Err e) = refl
 pub lone_value : (r : Result ℕ Refusal) (v : ℕ) → ResultUnwrapsOrElse r (λ (x : ℕ). x ≡ 0) v → v ≡ value (answered (λ (n : ℕ). n ∷ []) r) 0
 lone_value (Ok a) v e = e
 lone_value (Err r) v e = e
+
+-- an error that is a refusal converts to its number: the result by numbers is the number met, that of the answer, and the values are the answer's
+pub met_by : {A : Type 0} (r : Result A Refusal) (n : ℕ) → MetBy (λ (e : Refusal) (k : ℕ). k ≡ refusal_number e) r n → n ≡ met r
+met_by (Ok a) n e = e
+met_by (Err x) n e = e
+
+pub number_by : {A : Type 0} (values : A → List ℕ) (r : Result A Refusal) (n : ℕ) → MetBy (λ (e : Refusal) (k : ℕ). k ≡ refusal_number e) r n
+    → n ≡ number (answered values r)
+number_by values r n e = met_by r n e ∙ met_number values r
+
+pub values_by : {A : Type 0} (values : A → List ℕ) (r : Result A Refusal) (i : ℕ) → value_by values r i ≡ value (answered values r) i
+values_by values (Ok a) i = refl
+values_by values (Err x) i = refl
+
+-- an error that is a number is the number
+pub plain_by : (A : Type 0) (m n : ℕ) → MetBy {A = A} (λ (e k : ℕ). k ≡ e) (Err m) n → n ≡ m
+plain_by A m n e = e
 
 -- the two ways out of a call with a target: turned back, and written
 module _ (met : ℕ) (vs new old : List ℕ) where

@@ -1,6 +1,6 @@
 -- What a call answers: "A refusal returns its number and zero elsewhere. Buffers stay unchanged" (document 01, below its table). Each call's
 -- Result is read as an Answer, and the promises are stated with that. Assumes nothing.
-use Rattle.std.specs.Prelude.{List, [], ◌∷◌, ℕ, zero, suc, get_or, Option, Some, None, Result, Ok, Err}
+use Rattle.std.specs.Prelude.{◌≡◌, List, [], ◌∷◌, ℕ, zero, suc, get_or, Option, Some, None, Result, Ok, Err}
 use Rattle.answers.specs.declared.Refusal.{Refusal}
 use Rattle.answers.specs.declared.BestMove.{BestMove}
 use Rattle.answers.specs.declared.Frame.{Frame}
@@ -53,6 +53,16 @@ abbrev pub met : {A : Type 0} → Result A Refusal → ℕ
 met (Ok a) = 0
 met (Err e) = refusal_number e
 
+-- a result by numbers, whatever its error: 0 for none, else a number that the error converts to;
+abbrev pub MetBy : {A E : Type 0} → (E → ℕ → Type 0) → Result A E → ℕ → Type 0
+MetBy converts (Ok a) n = n ≡ 0
+MetBy converts (Err e) n = converts e n
+
+-- and its values, zero after an error
+abbrev pub value_by : {A E : Type 0} → (A → List ℕ) → Result A E → ℕ → ℕ
+value_by values (Ok a) i = get_or (values a) i 0
+value_by values (Err e) i = 0
+
 -- a call's answer, by the values of its result
 abbrev pub answered : {A : Type 0} → (A → List ℕ) → Result A Refusal → Answer
 answered values (Ok a) = accepted (values a)
@@ -83,8 +93,11 @@ abbrev pub looked : Result ℕ Refusal → Answer
 looked r = answered (λ (e : ℕ). e ∷ []) r
 
 -- a move with the entry of the successor that it leads to,
+abbrev pub move_values : BestMove → List ℕ
+move_values b = b.number ∷ b.entry ∷ []
+
 abbrev pub chosen : Result BestMove Refusal → Answer
-chosen r = answered (λ (b : BestMove). b.number ∷ b.entry ∷ []) r
+chosen r = answered move_values r
 
 -- tables filled,
 abbrev pub solved : Result (Unit {0}) Refusal → Answer
@@ -99,8 +112,11 @@ abbrev pub checked : Result (Option ℕ) Refusal → Answer
 checked r = answered passed_or_fails r
 
 -- the position of a frame: its rings, the points of the side to move, those of the other side,
+abbrev pub frame_values : Frame → List ℕ
+frame_values f = f.rings ∷ f.mover ∷ f.opponent ∷ []
+
 abbrev pub frame_read : Result Frame Refusal → Answer
-frame_read r = answered (λ (f : Frame). f.rings ∷ f.mover ∷ f.opponent ∷ []) r
+frame_read r = answered frame_values r
 
 -- how many characters were written
 abbrev pub frame_written : Result ℕ Refusal → Answer

@@ -53,6 +53,15 @@ impl Refusal {
     }
 }
 
+// The same by `into`, so that what takes any error with a number takes a refusal.
+impl From<Refusal> for u8 {
+    ghost from_gives = { λ r n. n ≡ refusal_number r };
+
+    fn from(refusal: Refusal) -> u8 {
+        refusal.number()
+    }
+}
+
 impl fmt::Display for Refusal {
     fn fmt<W: fmt::Write>(&self, f: &mut fmt::Formatter<W>) -> fmt::Result {
         f.write_str(match self {

@@ -1,6 +1,6 @@
 // A frame taken apart, before its stones are counted.
 ghost use Rattle.std.specs.Prelude.{◌≡◌};
-ghost use Rattle.answers.specs.Answers.{number, frame_read};
+ghost use Rattle.answers.specs.Answers.{MetBy, frame_read};
 ghost use Rattle.frame_calls.specs.ReadFrameCall.{taken_apart};
 
 use answers::{Frame, Refusal};
@@ -17,12 +17,12 @@ pub fn take_apart(frame: &[u8]) -> Result<Frame, Refusal>
     })
 }
 
-// The number of a refusal, 0 for a position.
-pub fn number_of(read: Result<Frame, Refusal>) -> u8
-    ensures { result ≡ number (frame_read read) }
+// The number of a refusal, 0 for a position: a refusal is any error that converts to its number, `Refusal` or the number itself.
+pub fn number_of<E: Into<u8>>(read: Result<Frame, E>) -> u8
+    ensures { MetBy E.converts read result }
 {
     match read {
         Ok(_) => 0,
-        Err(refusal) => refusal.number(),
+        Err(refusal) => refusal.into(),
     }
 }

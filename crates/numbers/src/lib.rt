@@ -1,26 +1,28 @@
 // An answer as numbers: document 01's number is returned, the values are given through `&mut`. "A refusal returns its number and zero elsewhere."
+//
+// A refusal is any error that converts to its number: `answers::Refusal`, or the number itself.
 #![tactic(auto)]
 
 ghost use Rattle.std.specs.Prelude.{◌≡◌};
 ghost use Rattle.std.specs.Result.{ResultUnwrapsOrElse};
-ghost use Rattle.answers.specs.Answers.{number as number_of, value, met};
-ghost use Rattle.answers.specs.Answers.{chosen, checked, frame_read};
+ghost use Rattle.answers.specs.Answers.{MetBy, value_by};
+ghost use Rattle.answers.specs.Answers.{move_values, passed_or_fails, frame_values};
 
-use answers::{BestMove, Frame, Refusal};
+use answers::{BestMove, Frame};
 
 // An answer without a value: a board written, tables filled.
-pub fn done(answer: Result<(), Refusal>) -> u8
-    ensures { result ≡ met answer }
+pub fn done<E: Into<u8>>(answer: Result<(), E>) -> u8
+    ensures { MetBy E.converts answer result }
 {
     match answer {
         Ok(()) => 0,
-        Err(refusal) => refusal.number(),
+        Err(refusal) => refusal.into(),
     }
 }
 
 // An answer of one value: a rank, a count, an entry.
-pub fn one<T: Copy + Default>(answer: Result<T, Refusal>, value: &mut T) -> u8
-    ensures refusal { result ≡ met answer }
+pub fn one<T: Copy + Default, E: Into<u8>>(answer: Result<T, E>, value: &mut T) -> u8
+    ensures refusal { MetBy E.converts answer result }
     ensures value { ResultUnwrapsOrElse answer T.is_default value.new }
 {
     match answer {
@@ -30,16 +32,16 @@ pub fn one<T: Copy + Default>(answer: Result<T, Refusal>, value: &mut T) -> u8
         }
         Err(refusal) => {
             *value = T::default();
-            refusal.number()
+            refusal.into()
         }
     }
 }
 
 // A move, and the entry of the successor that it leads to.
-pub fn chosen(answer: Result<BestMove, Refusal>, number: &mut u16, entry: &mut u16) -> u8
-    ensures refusal { result ≡ number_of (chosen answer) }
-    ensures number { number.new ≡ value (chosen answer) 0 }
-    ensures entry { entry.new ≡ value (chosen answer) 1 }
+pub fn chosen<E: Into<u8>>(answer: Result<BestMove, E>, number: &mut u16, entry: &mut u16) -> u8
+    ensures refusal { MetBy E.converts answer result }
+    ensures number { number.new ≡ value_by move_values answer 0 }
+    ensures entry { entry.new ≡ value_by move_values answer 1 }
 {
     match answer {
         Ok(best) => {
@@ -50,16 +52,16 @@ pub fn chosen(answer: Result<BestMove, Refusal>, number: &mut u16, entry: &mut u
         Err(refusal) => {
             *number = 0;
             *entry = 0;
-            refusal.number()
+            refusal.into()
         }
     }
 }
 
 // Whether a tablebase passed, and the first index that fails.
-pub fn checked(answer: Result<Option<u64>, Refusal>, passed: &mut u8, index: &mut u64) -> u8
-    ensures refusal { result ≡ number_of (checked answer) }
-    ensures passed { passed.new ≡ value (checked answer) 0 }
-    ensures index { index.new ≡ value (checked answer) 1 }
+pub fn checked<E: Into<u8>>(answer: Result<Option<u64>, E>, passed: &mut u8, index: &mut u64) -> u8
+    ensures refusal { MetBy E.converts answer result }
+    ensures passed { passed.new ≡ value_by passed_or_fails answer 0 }
+    ensures index { index.new ≡ value_by passed_or_fails answer 1 }
 {
     match answer {
         Ok(None) => {
@@ -75,22 +77,22 @@ pub fn checked(answer: Result<Option<u64>, Refusal>, passed: &mut u8, index: &mu
         Err(refusal) => {
             *passed = 0;
             *index = 0;
-            refusal.number()
+            refusal.into()
         }
     }
 }
 
 // The position of a frame.
-pub fn frame_read(
-    answer: Result<Frame, Refusal>,
+pub fn frame_read<E: Into<u8>>(
+    answer: Result<Frame, E>,
     rings: &mut u8,
     mover: &mut u32,
     opponent: &mut u32,
 ) -> u8
-    ensures refusal { result ≡ number_of (frame_read answer) }
-    ensures rings { rings.new ≡ value (frame_read answer) 0 }
-    ensures mover { mover.new ≡ value (frame_read answer) 1 }
-    ensures opponent { opponent.new ≡ value (frame_read answer) 2 }
+    ensures refusal { MetBy E.converts answer result }
+    ensures rings { rings.new ≡ value_by frame_values answer 0 }
+    ensures mover { mover.new ≡ value_by frame_values answer 1 }
+    ensures opponent { opponent.new ≡ value_by frame_values answer 2 }
 {
     match answer {
         Ok(frame) => {
@@ -103,7 +105,7 @@ pub fn frame_read(
             *rings = 0;
             *mover = 0;
             *opponent = 0;
-            refusal.number()
+            refusal.into()
         }
     }
 }

@@ -3,13 +3,13 @@ use mathlib.Core.Path.{ap, ◌∙◌}
 use mathlib.Core.List.{[], ◌∷◌}
 use Prim.Native.Nat.{ℕ}
 use Rattle.answers.specs.Answers.{Answer, number, value}
-use Rattle.answers.proofs.Answering.{met_number, lone_value}
+use Rattle.answers.proofs.Answering.{number_by, lone_value}
 use Rattle.morris_c.proofs.morris_representative.Goals as goal
 
 pub returns : goal.returns
 returns c =
     let e = c.representative.ensures in
     record {
-      refusal = c.one.ensures.refusal ∙ met_number (λ (n : ℕ). n ∷ []) c.representative.result ∙ ap number e;
+      refusal = number_by (λ (n : ℕ). n ∷ []) c.representative.result _ c.one.ensures.refusal ∙ ap number e;
       rank = lone_value c.representative.result _ c.one.ensures.value ∙ ap (λ (a : Answer). value a 0) e;
     }

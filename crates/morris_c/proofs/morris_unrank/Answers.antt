@@ -2,10 +2,10 @@
 use mathlib.Core.Path.{ap, ◌∙◌}
 use mathlib.Core.List.{[]}
 use Rattle.answers.specs.Answers.{number}
-use Rattle.answers.proofs.Answering.{met_number}
+use Rattle.answers.proofs.Answering.{number_by}
 use Rattle.morris_c.proofs.morris_unrank.Goals as goal
 
 pub returns : goal.returns
 returns c =
     let e = c.unrank.ensures.answer in
-    record { refusal = c.done.ensures ∙ met_number (λ (u : Unit {0}). []) c.unrank.result ∙ ap number e; target = c.unrank.ensures.target }
+    record { refusal = number_by (λ (u : Unit {0}). []) c.unrank.result _ c.done.ensures ∙ ap number e; target = c.unrank.ensures.target }

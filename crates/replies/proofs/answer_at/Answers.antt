@@ -7,7 +7,8 @@ use lib.ListN.{length, take, length-take}
 use lib.Seq.{length-take-le}
 use Rattle.board.proofs.Sides.{length_board}
 use Rattle.std.specs.Prelude.{Result, Ok, Err}
-use Rattle.answers.specs.Answers.{refused, number, frame_read}
+use Rattle.answers.specs.Answers.{refused, number, frame_values, frame_read}
+use Rattle.answers.proofs.Answering.{number_by}
 use Rattle.answers.specs.declared.Frame.{Frame}
 use Rattle.answers.specs.declared.Refusal.{Refusal}
 use Rattle.text.specs.Text.{refused_line}
@@ -26,7 +27,7 @@ returns-in_default c =
     let a = c.args in
     let q = turned_back c.read_frame-read.result c.in_default.not-Ok in
     let e : refused_line c.number_of.result ≡ answer_of a.tablebase.now a.line.now =
-    ap refused_line c.number_of.ensures ∙ line_refused a.tablebase.now a.line.now _ (sym q ∙ c.read_frame-read.ensures) in
+    ap refused_line (number_by frame_values c.read_frame-read.result _ c.number_of.ensures) ∙ line_refused a.tablebase.now a.line.now _ (sym q ∙ c.read_frame-read.ensures) in
     let whole = same_written a.at _ a.out.now _ e (c.put_refused.ensures.place, (c.put_refused.ensures.bound, c.put_refused.ensures.buffer)) in
     record { place = whole.0; bound = whole.1.0; buffer = whole.1.1 }
 
