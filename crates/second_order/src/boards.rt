@@ -45,16 +45,18 @@ impl Board {
         None
     }
 
-    // The next board, if this is not the last: as little more at that point as can be, and the lowest order of what is left under it, which is the
-    // present one turned round. Under it what stands never falls from a point to the next, so the lowest point that has more has the least of these.
-    pub fn next(&self) -> Option<Board> {
-        let p = self.lowest_to_raise()?;
-        let mut board = *self;
-        let v = board.values[p];
-        if let Some(q) = board.values[..p].iter().position(|w| v < *w) {
-            board.values.swap(p, q);
+    // Makes it the next board, if it is not the last, and says whether it did: as little more at that point as can be, and the lowest order of what is
+    // left under it, which is the present one turned round. Under it what stands never falls from a point to the next, so the lowest point that has more
+    // has the least of these.
+    pub fn advance(&mut self) -> bool {
+        let Some(p) = self.lowest_to_raise() else {
+            return false;
+        };
+        let v = self.values[p];
+        if let Some(q) = self.values[..p].iter().position(|w| v < *w) {
+            self.values.swap(p, q);
         }
-        board.values[..p].reverse();
-        Some(board)
+        self.values[..p].reverse();
+        true
     }
 }

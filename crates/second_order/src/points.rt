@@ -49,12 +49,13 @@ impl Board {
         next
     }
 
-    // The board under the sides' other names.
+    // The board under the sides' other names, value by value: `map` on an array first makes an option of each.
     pub fn turned(&self) -> Board {
-        Board {
-            rings: self.rings,
-            values: self.values.map(renamed),
+        let mut next = *self;
+        for v in next.values.iter_mut() {
+            *v = renamed(*v);
         }
+        next
     }
 
     // Whether a value stands at both points.

@@ -38,14 +38,6 @@ impl Tables {
         None
     }
 
-    // The position after one.
-    fn after(&self, position: &Position) -> Option<Position> {
-        match position.board.next() {
-            Some(board) => Some(Position { board, ..*position }),
-            None => self.first_from(10 * position.m as usize + position.o as usize + 1),
-        }
-    }
-
     // Where a position stands, if its table is one of these.
     pub fn place(&self, position: &Position) -> Option<usize> {
         let start = self.start(position.m, position.o)?;
@@ -71,9 +63,14 @@ pub struct Positions<'a> {
 impl Iterator for Positions<'_> {
     type Item = Position;
 
+    // The one to come is made in place: a wave takes a third longer where it is a new value, which is copied from call to call.
     fn next(&mut self) -> Option<Position> {
-        let position = self.next?;
-        self.next = self.tables.after(&position);
+        let next = self.next.as_mut()?;
+        let position = *next;
+        if !next.board.advance() {
+            let table = 10 * position.m as usize + position.o as usize;
+            self.next = self.tables.first_from(table + 1);
+        }
         Some(position)
     }
 }

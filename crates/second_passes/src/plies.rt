@@ -51,9 +51,9 @@ pub fn may_be_taken(board: &Board, edition: Edition, p: usize) -> bool {
 }
 
 // Whether a stone may go from one point to another: to a vacant one, with three stones to any, else to a neighbour. A move is taken back by
-// the same rule.
+// the same rule. Most points are no neighbours, and are not looked at.
 pub fn goes(position: &Position, from: usize, to: usize) -> bool {
-    (position.board.at(to) == 0) & ((position.m == 3) | adjoin(from, to))
+    ((position.m == 3) | adjoin(from, to)) && position.board.at(to) == 0
 }
 
 impl Tally {
