@@ -5,7 +5,7 @@ use Prim.Native.Nat.{ℕ, zero, suc, ◌+◌, ◌-◌, ◌*◌, ◌/◌, ◌%◌
 use native.Mathlib.Nat.{zero-div}
 use native.Mathlib.Omega.{arith}
 use lib.Dec.{eqb, ltb}
-use borrow.Author.Tests.{ltb-true, lt-ltb, eq-eqb, ne_eqb}
+use borrow.Author.Tests.{eqb-true, ltb-true, lt-ltb, eq-eqb, ne_eqb}
 use Rattle.lists.proofs.Table.{every_two, every_two_lem}
 use Rattle.sets.specs.Sets.{bit}
 use Rattle.sets.proofs.Laws.{same_set}
@@ -24,6 +24,17 @@ within_tests = refl
 pub place_low : (g p : ℕ) → g < 16 → p < 8 → place_from g p < 8
 unfolding place_within
 place_low g p a b = ltb-true (place_from g p) 8 (every_two_lem 16 8 place_within within_tests g p a b)
+
+place_eight : ℕ → ℕ → Bool
+place_eight g p = eqb (place_from g p) (place_from (g % 8) p)
+
+eight_tests : every_two 16 8 place_eight ≡ true
+unfolding place_eight place_from
+eight_tests = refl
+
+pub place_same : (g p : ℕ) → g < 16 → p < 8 → place_from g p ≡ place_from (g % 8) p
+unfolding place_eight
+place_same g p a b = eqb-true (place_from g p) (place_from (g % 8) p) (every_two_lem 16 8 place_eight eight_tests g p a b)
 
 -- an empty ring has an empty image
 empty_bit : (p : ℕ) → bit 0 p ≡ 0

@@ -37,6 +37,14 @@ derived_mills rings h p j a b = go rings h
     go (suc (suc (suc zero))) l = at 3 refl
     go (suc (suc (suc (suc r)))) l = absurd (omega arith)
 
+pub derived_length : (rings : ℕ) → rings ≤ 3 → length (derived rings) ≡ 72
+unfolding placed mill_placed mills_placed mill_point mills ring_mills cross_mills set_from with_all
+derived_length zero h = refl
+derived_length (suc zero) h = refl
+derived_length (suc (suc zero)) h = refl
+derived_length (suc (suc (suc zero))) h = refl
+derived_length (suc (suc (suc (suc r)))) h = absurd (omega arith)
+
 -- the neighbours on fewer rings are those on three that are points of the board
 cut_at : ℕ → ℕ → Bool
 cut_at rings p = eqb (bit_and (2 ^ (8 * rings) - 1) (set_from (neighbours 3 p))) (set_from (neighbours rings p))

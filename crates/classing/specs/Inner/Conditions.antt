@@ -6,7 +6,7 @@ use Rattle.sizes.specs.Size.{size}
 use Rattle.parts.specs.declared.Part.{Part}
 use Rattle.classing.specs.declared.Maps.{Maps}
 
--- a position, the lent images of rings, and how many maps make a class
+-- a position, and how many maps make a class
 pub record Imaging (maps : Maps) (position : Position) : Type 0 where
   pub small : maps.rings ≤ 3
   pub few : maps.count ≤ 16

@@ -8,14 +8,14 @@ use Rattle.symmetry.specs.Symmetries.{image}
 use Rattle.layers.specs.declared.Source.{Source}
 use Rattle.comparing.specs.declared.Entered.{Entered}
 
--- the lent tables, and a table that lies within a tablebase of a length
+-- a table that lies within a tablebase of a length
 pub record Comparable (length rings : ℕ) (table : Source) : Type 0 where
   pub small : rings ≤ 3
   pub mover_most : table.mover ≤ 24
   pub opponent_most : table.opponent ≤ 24
   pub room : table.start + size (8 * rings) table.mover table.opponent ≤ length
 
--- the lent tables, and a position whose table lies within a tablebase of a length
+-- a position whose table lies within a tablebase of a length
 pub record Comparing (length rings : ℕ) (at : Entered) : Type 0 where
   pub small : rings ≤ 3
   pub on : OnBoard (8 * rings) at.position

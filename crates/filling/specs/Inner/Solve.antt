@@ -21,7 +21,7 @@ pub record Setting (length rings k m o : ℕ) (a b : Table) : Type 0 where
   pub first : Located (8 * rings) k m o a
   pub second : Located (8 * rings) k o m b
 
--- the tables of a pair, the lent images, and a number of maps under which the lower tables are symmetric; these hold no void
+-- the tables of a pair, and a number of maps under which the lower tables are symmetric; these hold no void
 pub record PairSolving (tablebase : List ℕ) (bounds : Bounds) (maps : ℕ) (tables : Tables) : Type 0 where
   pub setting : Setting (length tablebase) bounds.rings bounds.k tables.first.mover tables.first.opponent tables.first tables.second
   pub valid : LowerValid bounds.rings bounds.k tables.first.mover tables.first.opponent tablebase

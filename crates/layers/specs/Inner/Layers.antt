@@ -16,7 +16,7 @@ use Rattle.layers.specs.declared.Layer.{Layer}
 abbrev pub Stored : Source → ℕ → ℕ → Type 0
 Stored s n length = 3 ≤ s.mover → s.start + n ≤ length
 
--- the table before a layer and the layer lie within a tablebase of a length, with the lent images and how many maps make a class
+-- the table before a layer and the layer lie within a tablebase of a length, and how many maps make a class
 pub record Preceding (length : ℕ) (maps : Maps) (back : Back) (layer : Layer) : Type 0 where
   pub few : maps.count ≤ 16
   pub room : Room (8 * maps.rings) layer.source.opponent (layer.source.mover + digit back.capture) back.part.start back.part.end length

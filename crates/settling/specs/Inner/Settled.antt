@@ -15,7 +15,7 @@ use Rattle.deciding.specs.Inner.Fits.{Fits}
 use Rattle.deciding.specs.Inner.Open.{board_at, judged}
 use Rattle.settling.specs.declared.Sweep.{Sweep}
 
--- a level over a table by classes: the lent images, how many maps make a class, and that the tables fit
+-- a level over a table by classes: how many maps make a class, and that the tables fit
 pub record Sweeping (length : ℕ) (maps : Maps) (sweep : Sweep) : Type 0 where
   pub few : maps.count ≤ 16
   pub fits : Fits length maps.rings sweep.table sweep.same

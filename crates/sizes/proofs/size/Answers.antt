@@ -1,4 +1,4 @@
--- `Binomials::size` meets its contract: a size is the product of two binomials. Assumes nothing.
+-- `sizes::size` meets its contract: a size is the product of two binomials. Assumes nothing.
 use mathlib.Core.Path.{◌≡◌, sym, ap₂, ◌∙◌}
 use Prim.Native.Nat.{◌*◌}
 use native.Mathlib.Omega.{arith}
